@@ -1,0 +1,51 @@
+-- Every geometry is valid; which stop a geometry that is asked for gets.
+use mathlib.Core.Path.{_≡_, refl}
+use mathlib.Core.Bool.{true, false}
+use mathlib.Core.Logic.{_⊎_, inl, inr, ⊎-elim}
+use Prim.Native.Nat.{ℕ, _+_, _≤_, _<_, min}
+use native.Mathlib.Omega.{arith}
+use lib.ListN.{length}
+use Rattle.std.proofs.shelf.Tests.{both-ways}
+use Rattle.tip_code.specs.Geometry.{prime-of, stripes-of, Valid, Size-stop, no-prime, no-stripe, too-many}
+use Rattle.tip_code.specs.Primes.{primes, listed, Prime-facts}
+use Rattle.tip_code.specs.Stops.{number, First}
+use Rattle.tip_code.specs.declared.geometry.Geometry.{Geometry}
+use Rattle.tip_code.specs.declared.stop.Stop.{Stop}
+use Rattle.tip_code.specs.declared.stop.Stop.the-variants as stop
+use Rattle.tip_code.proofs.Tables.{among-at, prime-facts}
+
+pub valid : (g : Geometry) → Valid (prime-of g) (stripes-of g)
+unfolding prime-of stripes-of
+valid g = record {
+  prime = among-at primes (min (g .rank) 9) (omega arith);
+  some = omega arith;
+  most = omega arith;
+}
+
+pub facts : (g : Geometry) → Prime-facts (prime-of g)
+facts g = prime-facts (prime-of g) (valid g .prime)
+
+module _ (p n : ℕ) where
+  pub size-prime : listed p ≡ false → First (Size-stop p n) stop.Prime
+  size-prime h = record { this = no-prime h; lower = λ t l f. under f l }
+    where
+      under : {t : Stop} → Size-stop p n t → number t < 1 → ⊥
+      under (no-prime h) l = omega arith
+      under (no-stripe h) l = omega arith
+      under (too-many h) l = omega arith
+
+  pub size-stripes : listed p ≡ true → (n ≡ 0) ⊎ (4097 ≤ n) → First (Size-stop p n) stop.Stripes
+  size-stripes t h = record { this = ⊎-elim no-stripe too-many h; lower = λ s l f. under f l }
+    where
+      under : {s : Stop} → Size-stop p n s → number s < 2 → ⊥
+      under (no-prime h) l = both-ways (listed p) h t
+      under (no-stripe h) l = omega arith
+      under (too-many h) l = omega arith
+
+  pub size-none : listed p ≡ true → 1 ≤ n → n ≤ 4096 → (s : Stop) → Size-stop p n s → ⊥
+  size-none t low high s f = under f
+    where
+      under : {s : Stop} → Size-stop p n s → ⊥
+      under (no-prime h) = both-ways (listed p) h t
+      under (no-stripe h) = omega arith
+      under (too-many h) = omega arith

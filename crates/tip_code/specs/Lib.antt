@@ -1,0 +1,10 @@
+pub mod Counts
+pub mod Encoding
+pub mod Geometry
+pub mod Laws
+pub mod Places
+pub mod Primes
+pub mod Stops
+pub mod Stripe
+pub mod Traces
+pub mod Words

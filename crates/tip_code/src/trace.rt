@@ -1,0 +1,84 @@
+// Traces: sets of small numbers.
+ghost use mathlib.Core.Path.{_≡_};
+ghost use mathlib.Core.Bool.{true};
+ghost use Prim.Native.Nat.{ℕ, _<_, _≤_};
+ghost use lib.Dec.{eqb};
+ghost use Rattle.std.specs.Options.{Cases as BySome};
+ghost use Rattle.tip_code.specs.Laws.{Exactly};
+ghost use Rattle.tip_code.specs.Traces.{no-trace, trace-join, trace-laws, has, members, one-of};
+use super::element::Element;
+
+/// A set of numbers from 0 to 127, kept as the bits of two words.
+/// A join keeps each number that is in just one of the two sets.
+#[derive(Clone, Copy, PartialEq, Eq, Debug)]
+pub struct Trace {
+    low: u64,
+    high: u64,
+}
+
+pub impl Element for Trace as TraceElement {
+    ghost zero = { no-trace };
+
+    ghost join = { trace-join };
+
+    ghost laws = { trace-laws };
+
+    fn zero() -> Trace {
+        Trace { low: 0, high: 0 }
+    }
+
+    fn join(self, other: Trace) -> Trace
+        ensures value { λ r. ⌜ r ≡ trace-join self other ⌝ }
+        ensures either { λ r. ⌜ ((n : ℕ) → has r n ≡ one-of (has self n) (has other n)) ⌝ }
+    {
+        Trace {
+            low: self.low ^ other.low,
+            high: self.high ^ other.high,
+        }
+    }
+
+    fn is_zero(self) -> bool {
+        self.low == 0 && self.high == 0
+    }
+}
+
+impl Trace {
+    /// The set that holds just this number, or nothing where it is above 127.
+    pub fn single(number: usize) -> Option<Trace>
+        ensures { λ r. ⌜ BySome r (128 ≤ number) (λ t. (number < 128) × ((n : ℕ) → has t n ≡ eqb n number)) ⌝ }
+    {
+        if number < 64 {
+            Some(Trace {
+                low: 1 << number,
+                high: 0,
+            })
+        } else if number < 128 {
+            Some(Trace {
+                low: 0,
+                high: 1 << (number - 64),
+            })
+        } else {
+            None
+        }
+    }
+
+    /// Whether the number is in the set.
+    pub fn has(self, number: usize) -> bool
+        ensures { λ r. ⌜ r ≡ has self number ⌝ }
+    {
+        if number < 64 {
+            (self.low >> number) % 2 == 1
+        } else if number < 128 {
+            (self.high >> (number - 64)) % 2 == 1
+        } else {
+            false
+        }
+    }
+
+    /// How many numbers are in the set.
+    pub fn count(self) -> u32
+        ensures { λ r. ⌜ r ≡ members self ⌝ }
+    {
+        self.low.count_ones() + self.high.count_ones()
+    }
+}
