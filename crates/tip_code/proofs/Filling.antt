@@ -73,13 +73,13 @@ module _ {E : Type 0} (none : E) (join : E → E → E) (p : ℕ) (t : listed p 
       line-same none join p Y X d i (λ r c x. let f = data-facts p r c x in before .kept r c (f .row) (omega (arith, f .column)) (λ _ e. parity-no-data p d r c x e)) in
       record {
         set = λ j l. ⊎-elim
-          (λ (e : j ≡ i). ap (λ k. stripe-of none p (set xs (cell-index p i column) v) k (parity-column p d k)) e
-          ∙ set-here none p xs v i column len h low ∙ is ∙ joins ∙ ap (line-join none join p X d) (sym e))
-          (λ (e : j ≡ i → ⊥). set-other none p xs v j (parity-column p d j) i column (omega arith) h (λ same _. e same) ∙ before .set j (omega arith))
-          (cases-eq j i);
+            (λ (e : j ≡ i). ap (λ k. stripe-of none p (set xs (cell-index p i column) v) k (parity-column p d k)) e
+            ∙ set-here none p xs v i column len h low ∙ is ∙ joins ∙ ap (line-join none join p X d) (sym e))
+            (λ (e : j ≡ i → ⊥). set-other none p xs v j (parity-column p d j) i column (omega arith) h (λ same _. e same) ∙ before .set j (omega arith))
+            (cases-eq j i);
         kept = λ r c k l out.
-          set-other none p xs v r c i column k h (λ same e. out (omega arith) (e ∙ ap (parity-column p d) (sym same)))
-          ∙ before .kept r c k l (λ m e. out (omega arith) e);
+            set-other none p xs v r c i column k h (λ same e. out (omega arith) (e ∙ ap (parity-column p d) (sym same)))
+            ∙ before .kept r c k l (λ m e. out (omega arith) e);
       }
 
   -- the places, then the rows, the diagonals and the antidiagonals: the stripe is encoded
@@ -88,10 +88,10 @@ module _ {E : Type 0} (none : E) (join : E → E → E) (p : ℕ) (t : listed p 
       record {
         encoded = record {
           row = λ i h. later Y Z Antidiagonal antidiagonals i p h (omega arith) (omega arith)
-            ∙ later X Y Diagonal diagonals i p h (omega arith) (omega arith)
-            ∙ rows .set i h ∙ line-same none join p W Z Row i (λ r c x. sym (whole r c x));
+              ∙ later X Y Diagonal diagonals i p h (omega arith) (omega arith)
+              ∙ rows .set i h ∙ line-same none join p W Z Row i (λ r c x. sym (whole r c x));
           diagonal = λ i h. later Y Z Antidiagonal antidiagonals i (i + 1) h (omega arith) (omega (arith, facts .odd))
-            ∙ diagonals .set i h ∙ line-same none join p X Z Diagonal i (λ r c x. sym (stays Y Z Antidiagonal antidiagonals r c x ∙ stays X Y Diagonal diagonals r c x));
+              ∙ diagonals .set i h ∙ line-same none join p X Z Diagonal i (λ r c x. sym (stays Y Z Antidiagonal antidiagonals r c x ∙ stays X Y Diagonal diagonals r c x));
           antidiagonal = λ i h. antidiagonals .set i h ∙ line-same none join p Y Z Antidiagonal i (λ r c x. sym (stays Y Z Antidiagonal antidiagonals r c x));
         };
         places = λ n r c at. whole r c (at .holds) ∙ placed n r c at;

@@ -3,6 +3,7 @@ pub mod Cells
 pub mod Encodings
 pub mod Filling
 pub mod Joins
+pub mod Lines
 pub mod Numbers
 pub mod Sizes
 pub mod Tables

@@ -122,9 +122,9 @@ module _ (p : ℕ) (t : listed p ≡ true) where
   numbering = record {
     below = λ n r c h. subst (λ (m : ℕ). m < places-in p) (h .numbered) (number-below r c (h .holds));
     found = λ n h.
-      let r = n / (p - 2) in
-      let c = column-at p r (n % (p - 2)) in
-      (r, c, place-is n c h (skips-find r (n % (p - 2)) _ c (place-row n h) (place-left n) refl refl));
+        let r = n / (p - 2) in
+        let c = column-at p r (n % (p - 2)) in
+        (r, c, place-is n c h (skips-find r (n % (p - 2)) _ c (place-row n h) (place-left n) refl refl));
     apart = λ n r c s d h k. number-apart r c s d (h .holds) (k .holds) (h .numbered ∙ sym (k .numbered));
   }
 

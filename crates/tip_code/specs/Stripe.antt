@@ -1,8 +1,8 @@
 -- A stripe: p - 1 rows and p + 1 columns of cells. Which of them hold parity, which data, and the lines through them.
 use mathlib.Core.Path.{_≡_}
-use mathlib.Core.Bool.{Bool, not, _&&_}
+use mathlib.Core.Bool.{Bool, true, not, _&&_}
 use mathlib.Core.List.{List}
-use Prim.Native.Nat.{ℕ, _+_, _-_, _*_, _%_}
+use Prim.Native.Nat.{ℕ, _+_, _-_, _*_, _%_, _<_}
 use lib.Dec.{eqb, ltb, leb}
 use lib.ListN.{getD}
 use Rattle.tip_code.specs.declared.chain.Cell.{Cell}
@@ -28,6 +28,10 @@ parity-column p Row i = p
 parity-column p Diagonal i = i + 1
 parity-column p Antidiagonal i = p - 1 - i
 
+-- The parity cell of line i.
+abbrev pub parity-cell : ℕ → Direction → ℕ → Cell
+parity-cell p d i = cell i (parity-column p d i)
+
 -- Every cell of the stripe that holds no parity holds data.
 unfoldable pub data-cell : ℕ → ℕ → ℕ → Bool
 data-cell p r c =
@@ -46,6 +50,33 @@ crossing p Row i c = i
 crossing p Diagonal i c = (i + (p - c)) % p
 crossing p Antidiagonal i c = (i + c) % p
 
--- The parity of line i covers the data cells on the line. With them it is the chain of the line.
+-- A chain is the parity cell of line i with the data cells that it covers, those on the line.
 abbrev pub covers : ℕ → Direction → ℕ → ℕ → ℕ → Bool
 covers p d i r c = data-cell p r c && eqb (line-of p d r c) i
+
+-- Every data cell lies on one line of each direction that has a parity, and that line crosses its column in its row alone.
+pub record Lines (p : ℕ) : Type 0 where
+  pub one : (d : Direction) (r c : ℕ) → data-cell p r c ≡ true → line-of p d r c < p - 1
+  pub meets : (d : Direction) (i r c : ℕ) → i < p → data-cell p r c ≡ true → line-of p d r c ≡ i → crossing p d i c ≡ r
+  pub alone : (d : Direction) (i r c : ℕ) → i < p → data-cell p r c ≡ true → crossing p d i c ≡ r → line-of p d r c ≡ i
+
+-- Chains are counted direction by direction, p - 1 lines each.
+abbrev pub chains-in : ℕ → ℕ
+chains-in p = 3 * (p - 1)
+
+abbrev pub rank : Direction → ℕ
+rank Row = 0
+rank Diagonal = 1
+rank Antidiagonal = 2
+
+-- The chain of line i of direction d has this number.
+pub record Numbered (p : ℕ) (d : Direction) (i n : ℕ) : Type 0 where
+  pub line : i < p - 1
+  pub number : rank d * (p - 1) + i ≡ n
+
+-- A write to the data cell (r, c) concerns, besides itself, the parity cells of its row, its diagonal and its antidiagonal.
+pub record Concerned (p r c : ℕ) (row diagonal antidiagonal : Cell) : Type 0 where
+  pub holds : data-cell p r c ≡ true
+  pub by-row : row ≡ parity-cell p Row (line-of p Row r c)
+  pub by-diagonal : diagonal ≡ parity-cell p Diagonal (line-of p Diagonal r c)
+  pub by-antidiagonal : antidiagonal ≡ parity-cell p Antidiagonal (line-of p Antidiagonal r c)

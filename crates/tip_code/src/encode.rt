@@ -4,7 +4,7 @@ ghost use mathlib.Core.Bool.{true};
 ghost use Prim.Native.Nat.{ℕ, _+_, _-_, _*_, _<_, _≤_};
 ghost use lib.ListN.{length, getD};
 ghost use Rattle.std.specs.Results.{Cases};
-ghost use Rattle.tip_code.specs.Encoding.{line-join, Filled, Encodes, Encode-stop};
+ghost use Rattle.tip_code.specs.Encoding.{line-join, Filled, Encodes, Encode-stop, One-encoding};
 ghost use Rattle.tip_code.specs.Geometry.{prime-of, cells-in, places-in};
 ghost use Rattle.tip_code.specs.Places.{Place};
 ghost use Rattle.tip_code.specs.Primes.{listed};
@@ -56,10 +56,12 @@ fn set_parities<E: Element>(p: usize, cells: &mut [E], direction: Direction)
 }
 
 /// Encodes a stripe: takes the elements of the (p - 1)(p - 2) places in their order, and fills a stripe buffer of
-/// (p - 1)(p + 1) elements. Stop 3: either has another length, and nothing is written.
+/// (p - 1)(p + 1) elements. Every stripe has one encoding, and this is it.
+/// Stop 3: either has another length, and nothing is written.
 pub fn encode<E: Element>(geometry: Geometry, values: &[E], cells: &mut [E]) -> Result<(), Stop>
     ensures stop { λ r. ⌜ Stopped (Encode-stop (prime-of geometry) (length (now (values .entry))) (length (now (cells .entry)))) r ⌝ }
     ensures cells { λ r. ⌜ Cases r (λ _. Encodes zero join (prime-of geometry) (λ n. getD (now (values .entry)) n zero) (stripe-of zero (prime-of geometry) (now (cells .exit)))) (λ _. now (cells .exit) ≡ now (cells .entry)) ⌝ }
+    ensures one { λ _. ⌜ One-encoding zero join (prime-of geometry) ⌝ }
 {
     if values.len() != geometry.places() || cells.len() != geometry.cells() {
         return Err(Stop::Length);

@@ -6,7 +6,7 @@ ghost use lib.ListN.{getD};
 ghost use Rattle.std.specs.Options.{Cases as BySome};
 ghost use Rattle.std.specs.Vec.{made};
 ghost use Rattle.tip_code.specs.Geometry.{prime-of, stripes-of, Size-stop, cells-in, places-in};
-ghost use Rattle.tip_code.specs.Primes.{primes, listed};
+ghost use Rattle.tip_code.specs.Primes.{primes, listed, Prime-facts};
 ghost use Rattle.tip_code.specs.Stops.{Stopped};
 use super::stop::Stop;
 
@@ -61,6 +61,7 @@ impl Geometry {
         ensures listed { λ r. ⌜ listed r ≡ true ⌝ }
         ensures low { λ r. ⌜ 3 ≤ r ⌝ }
         ensures high { λ r. ⌜ r ≤ 31 ⌝ }
+        ensures facts { λ r. ⌜ Prime-facts r ⌝ }
     {
         PRIMES[self.rank.min(9) as usize] as usize
     }

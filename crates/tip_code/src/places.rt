@@ -5,7 +5,7 @@ ghost use Prim.Native.Nat.{ℕ, _+_, _-_, _*_, _<_, _≤_};
 ghost use Rattle.std.specs.Vec.{made};
 ghost use Rattle.tip_code.specs.Counts.{count-below};
 ghost use Rattle.tip_code.specs.Geometry.{prime-of, places-in};
-ghost use Rattle.tip_code.specs.Places.{Place, Place-stop};
+ghost use Rattle.tip_code.specs.Places.{Place, Place-stop, Numbering};
 ghost use Rattle.tip_code.specs.Primes.{listed};
 ghost use Rattle.tip_code.specs.Stops.{Stopped};
 ghost use Rattle.tip_code.specs.Stripe.{data-cell};
@@ -43,10 +43,12 @@ pub(crate) fn place_cell(p: usize, place: usize) -> Cell
 }
 
 impl Geometry {
-    /// The cell of a place. Stop 11: the place is not below (p - 1)(p - 2).
+    /// The cell of a place; each place is one cell, and each data cell one place.
+    /// Stop 11: the place is not below (p - 1)(p - 2).
     pub fn locate(self, place: usize) -> Result<Cell, Stop>
         ensures stop { λ r. ⌜ Stopped (Place-stop (prime-of self) place) r ⌝ }
         ensures value { λ r. ⌜ made r (λ c. Place (prime-of self) place (c .row) (c .column)) ⌝ }
+        ensures numbering { λ _. ⌜ Numbering (prime-of self) ⌝ }
     {
         if place >= self.places() {
             return Err(Stop::Place);

@@ -8,4 +8,4 @@ abbrev pub Inv-loop-column : given.InvT-loop-column
 Inv-loop-column g l =
     let m = g .E·Element in
     l .all ≡ join-below (m .zero) (m .join) (l .column)
-      (λ c. datum (m .zero) (l .p) (stripe-of (m .zero) (l .p) (l .cells)) (crossing (l .p) (l .direction) (l .line) c) c)
+    (λ c. datum (m .zero) (l .p) (stripe-of (m .zero) (l .p) (l .cells)) (crossing (l .p) (l .direction) (l .line) c) c)

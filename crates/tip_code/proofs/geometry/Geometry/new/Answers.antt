@@ -15,7 +15,7 @@ pub returns-then-stripes-eq0 : need.returns-then-stripes-eq0
 returns-then-stripes-eq0 c =
     record {
       stop = size-stripes (c .args .p) (c .args .stripes) (c .in-Some .ensures tt .2)
-        (⊎-elim inl (λ h. inr (omega (arith, h .1))) (c .then-stripes-eq0 .either));
+          (⊎-elim inl (λ h. inr (omega (arith, h .1))) (c .then-stripes-eq0 .either));
       value = tt;
     }
 

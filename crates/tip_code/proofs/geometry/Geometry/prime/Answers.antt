@@ -4,7 +4,7 @@ use native.Mathlib.Omega.{arith}
 use lib.ListN.{getD}
 use Rattle.tip_code.specs.Geometry.{prime-of}
 use mathlib.Core.Bool.{true}
-use Rattle.tip_code.specs.Primes.{primes, listed}
+use Rattle.tip_code.specs.Primes.{primes, listed, Prime-facts}
 use Rattle.tip_code.proofs.Sizes.{valid, facts}
 use Rattle.tip_code.proofs.geometry.Geometry.prime.Needs as need
 
@@ -18,4 +18,5 @@ returns c =
       listed = subst (λ (p : ℕ). listed p ≡ true) (sym e) (valid (c .args .self) .prime);
       low = subst (λ (p : ℕ). 3 ≤ p) (sym e) (f .low);
       high = subst (λ (p : ℕ). p ≤ 31) (sym e) (f .high);
+      facts = subst Prime-facts (sym e) f;
     }
