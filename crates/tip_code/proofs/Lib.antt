@@ -1,5 +1,6 @@
 pub mod Bits
 pub mod Cells
+pub mod Covering
 pub mod Encodings
 pub mod Filling
 pub mod Joins

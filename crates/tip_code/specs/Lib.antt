@@ -1,4 +1,5 @@
 pub mod Counts
+pub mod Cover
 pub mod Encoding
 pub mod Geometry
 pub mod Laws

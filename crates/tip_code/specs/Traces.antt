@@ -16,8 +16,12 @@ bit x n = eqb (x / 2 ^ n % 2) 1
 abbrev pub has : Trace → ℕ → Bool
 has t n = cond (ltb n 64) (bit (t .low) n) (bit (t .high) (n - 64))
 
+-- The set holds the number k, and no other.
+abbrev pub Just : ℕ → Trace → Type 0
+Just k t = (n : ℕ) → has t n ≡ eqb n k
+
 -- How many numbers are in the set.
-abbrev pub members : Trace → ℕ
+unfoldable pub members : Trace → ℕ
 members t = count-below 128 (has t)
 
 -- In just one of two sets.

@@ -1,6 +1,7 @@
 //! The array code: kinds of element, the sizes of an array, the cells of a stripe, and its encoding.
 
 pub mod chain;
+pub mod cover;
 pub mod element;
 pub mod encode;
 pub mod geometry;

@@ -2,10 +2,9 @@
 ghost use mathlib.Core.Path.{_≡_};
 ghost use mathlib.Core.Bool.{true};
 ghost use Prim.Native.Nat.{ℕ, _<_, _≤_};
-ghost use lib.Dec.{eqb};
 ghost use Rattle.std.specs.Options.{Cases as BySome};
 ghost use Rattle.tip_code.specs.Laws.{Exactly};
-ghost use Rattle.tip_code.specs.Traces.{no-trace, trace-join, trace-laws, has, members, one-of};
+ghost use Rattle.tip_code.specs.Traces.{no-trace, trace-join, trace-laws, has, members, one-of, Just};
 use super::element::Element;
 
 /// A set of numbers from 0 to 127, kept as the bits of two words.
@@ -42,24 +41,30 @@ pub impl Element for Trace as TraceElement {
     }
 }
 
+/// The set that holds just this number.
+pub(crate) fn just(number: usize) -> Trace
+    requires { ⌜ number < 128 ⌝ }
+    ensures { λ r. ⌜ Just number r ⌝ }
+{
+    if number < 64 {
+        Trace {
+            low: 1 << number,
+            high: 0,
+        }
+    } else {
+        Trace {
+            low: 0,
+            high: 1 << (number - 64),
+        }
+    }
+}
+
 impl Trace {
     /// The set that holds just this number, or nothing where it is above 127.
     pub fn single(number: usize) -> Option<Trace>
-        ensures { λ r. ⌜ BySome r (128 ≤ number) (λ t. (number < 128) × ((n : ℕ) → has t n ≡ eqb n number)) ⌝ }
+        ensures { λ r. ⌜ BySome r (128 ≤ number) (λ t. (number < 128) × Just number t) ⌝ }
     {
-        if number < 64 {
-            Some(Trace {
-                low: 1 << number,
-                high: 0,
-            })
-        } else if number < 128 {
-            Some(Trace {
-                low: 0,
-                high: 1 << (number - 64),
-            })
-        } else {
-            None
-        }
+        if number < 128 { Some(just(number)) } else { None }
     }
 
     /// Whether the number is in the set.

@@ -4,7 +4,7 @@ use Prim.Native.Nat.{ℕ, _+_, _<_}
 use native.Mathlib.Omega.{arith}
 use Rattle.std.proofs.shelf.Bits.{ones-le}
 use Rattle.std.proofs.shelf.Ways.{tells}
-use Rattle.tip_code.specs.Traces.{bit, has}
+use Rattle.tip_code.specs.Traces.{bit, has, members}
 use Rattle.tip_code.specs.declared.trace.Trace.{Trace}
 use Rattle.tip_code.proofs.Bits.{count-same, count-split, ones-bits}
 use Rattle.tip_code.proofs.trace.Trace.count.Needs as need
@@ -22,6 +22,7 @@ add-result c =
     let t = c .args .self in omega (arith, ones-le 64 (t .low) (omega arith), ones-le 64 (t .high) (omega arith))
 
 pub returns : need.returns
+unfolding members
 returns c =
     let t = c .args .self in
     ap₂ (λ x y. x + y)

@@ -8,7 +8,7 @@ use Rattle.std.proofs.shelf.Bits.{one-shl}
 use Rattle.std.proofs.shelf.Ways.{tells}
 use Rattle.tip_code.specs.Traces.{bit}
 use Rattle.tip_code.proofs.Bits.{bit-zero, bit-power}
-use Rattle.tip_code.proofs.trace.Trace.single.Needs as need
+use Rattle.tip_code.proofs.trace.just.Needs as need
 
 -- The numbers in the set of k, where k is of the low word.
 low : (k n : ℕ) → k < 64 → cond (ltb n 64) (bit (2 ^ k) n) (bit 0 (n - 64)) ≡ eqb n k
@@ -22,9 +22,9 @@ pub returns-then-number-lt64 : need.returns-then-number-lt64
 returns-then-number-lt64 c =
     let k = c .args .number in
     let h = c .if-number-lt64 .taken in
-    (omega arith, λ n. rw (one-shl k 64 h) (low k n h))
+    λ n. rw (one-shl k 64 h) (low k n h)
 
-pub returns-then-number-lt128 : need.returns-then-number-lt128
-returns-then-number-lt128 c =
+pub returns-else-number-lt64 : need.returns-else-number-lt64
+returns-else-number-lt64 c =
     let k = c .args .number in
-    (omega arith, λ n. rw (one-shl (k - 64) 64 (omega arith)) (high k n (c .if-number-lt64 .left)))
+    λ n. rw (one-shl (k - 64) 64 (omega arith)) (high k n (c .if-number-lt64 .left))

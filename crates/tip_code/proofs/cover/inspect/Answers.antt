@@ -1,0 +1,48 @@
+use mathlib.Core.Path.{_≡_, refl, sym, ap, subst, _∙_}
+use Prim.Native.Nat.{ℕ, _≤_, _<_}
+use native.Mathlib.Omega.{arith}
+use lib.ListN.{length, getD}
+use Rattle.tip_code.specs.Cover.{Cover}
+use Rattle.tip_code.specs.Geometry.{prime-of, cells-in}
+use Rattle.tip_code.specs.Stripe.{cell-index, parity-column}
+use Rattle.tip_code.specs.Traces.{no-trace}
+use Rattle.tip_code.proofs.Covering.{cover-prime, cover-length, cover-none}
+use Rattle.tip_code.proofs.cover.inspect.Needs as need
+
+pub returns-then-p-gt-LARGEST-TRACED : need.returns-then-p-gt-LARGEST-TRACED
+returns-then-p-gt-LARGEST-TRACED c =
+    let p = prime-of (c .args .geometry) in
+    record { stop = cover-prime p (length (c .args .cells .now)) (cells-in p) (omega (arith, c .prime-p .ensures .value)); value = tt }
+
+pub returns-then-cells : need.returns-then-cells
+returns-then-cells c =
+    let p = prime-of (c .args .geometry) in
+    record {
+      stop = cover-length p (length (c .args .cells .now)) (cells-in p) (omega (arith, c .prime-p .ensures .value)) (λ e. c .if-cells .taken (e ∙ sym (c .cells .ensures)));
+      value = tt;
+    }
+
+pub returns-in-rest : need.returns-in-rest
+returns-in-rest c =
+    let p = prime-of (c .args .geometry) in
+    record {
+      stop = cover-none p (length (c .args .cells .now)) (cells-in p) (omega (arith, c .prime-p .ensures .value)) (c .if-cells .left ∙ c .cells .ensures);
+      value = c .in-rest .ensures tt;
+    }
+
+pub returns : need.returns
+returns c =
+    let p = prime-of (c .args .geometry) in
+    let is = c .prime-p .ensures .value in
+    let chain = c .in-Some .chain in
+    let at : c .index-of .result ≡ cell-index p (chain .line) (parity-column p (chain .direction) (chain .line)) =
+    c .index-of .ensures .value ∙ ap (cell-index (c .prime-p .result) (chain .line)) (c .parity-column .ensures .value)
+    ∙ ap (λ q. cell-index q (chain .line) (parity-column q (chain .direction) (chain .line))) is in
+    record {
+      stop = cover-none p (length (c .args .cells .now)) (cells-in p) (omega (arith, is)) (c .if-cells .left ∙ c .cells .ensures);
+      value = record {
+        chain = c .in-Some .ensures tt;
+        found = ap (λ n. getD (c .args .cells .now) n no-trace) at;
+        cover = subst (λ (q : ℕ). Cover q (chain .direction) (chain .line) (c .covered-places .result .0) (c .covered-places .result .1)) is (c .covered-places .ensures);
+      };
+    }

@@ -1,0 +1,34 @@
+use mathlib.Core.Path.{_≡_, refl, sym, _∙_}
+use Prim.Native.Nat.{_<_, _≤_}
+use native.Mathlib.Omega.{arith}
+use lib.ListN.{length}
+use Rattle.tip_code.specs.Geometry.{prime-of, places-in}
+use Rattle.tip_code.proofs.Covering.{own-more, cover-prime, cover-length, cover-none}
+use Rattle.tip_code.proofs.cover.own_numbers.Needs as need
+
+pub returns-then-prime-gt-LARGEST-TRACED : need.returns-then-prime-gt-LARGEST-TRACED
+returns-then-prime-gt-LARGEST-TRACED c =
+    let p = prime-of (c .args .geometry) in
+    record { stop = cover-prime p (length (c .args .values .now)) (places-in p) (omega (arith, c .prime .ensures .value)); values = refl }
+
+pub returns-then-values-places : need.returns-then-values-places
+returns-then-values-places c =
+    let p = prime-of (c .args .geometry) in
+    record {
+      stop = cover-length p (length (c .args .values .now)) (places-in p) (omega (arith, c .prime .ensures .value)) (λ e. c .if-values-places .taken (e ∙ sym (c .places .ensures)));
+      values = refl;
+    }
+
+pub loop-place-again : need.loop-place-again
+loop-place-again c =
+    let low : c .loop-place .place < length (c .loop-place .values) = omega (arith, c .loop-place .kept .values) in
+    own-more (c .loop-place .place) (c .loop-place .values) (c .just .result) low (c .just .ensures) (c .loop-place .inv)
+
+pub returns : need.returns
+returns c =
+    let p = prime-of (c .args .geometry) in
+    let long : length (c .args .values .now) ≡ places-in p = c .if-values-places .left ∙ c .places .ensures in
+    record {
+      stop = cover-none p (length (c .args .values .now)) (places-in p) (omega (arith, c .prime .ensures .value)) long;
+      values = λ n low. c .loop-place .inv n (omega (arith, long));
+    }
