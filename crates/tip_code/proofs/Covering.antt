@@ -71,9 +71,9 @@ module _ (p : ℕ) (l : listed p ≡ true) (d : Direction) (i : ℕ) where
   pub covered-same : (m r c n : ℕ) (t : Trace) → Place p m r c → covers p d i r c ≡ false → Covered p d i m t n → Covered p d i (m + 1) t n
   covered-same m r c n t at off before = record {
     each = λ k s e low here. ⊎-elim
-      (λ (same : k ≡ m). ap (has t) same ∙ at-place m r c s e (has t m) at (subst (λ (j : ℕ). Place p j s e) same here) (before .others m (omega arith) ∙ sym off))
-      (λ other. before .each k s e (omega arith) here)
-      (cases-eq k m);
+        (λ (same : k ≡ m). ap (has t) same ∙ at-place m r c s e (has t m) at (subst (λ (j : ℕ). Place p j s e) same here) (before .others m (omega arith) ∙ sym off))
+        (λ other. before .each k s e (omega arith) here)
+        (cases-eq k m);
     others = λ k h. before .others k (omega arith);
     count = before .count ∙ sym (count-off m (has t) (before .others m (omega arith)));
     bound = omega (arith, before .bound);
@@ -83,9 +83,9 @@ module _ (p : ℕ) (l : listed p ≡ true) (d : Direction) (i : ℕ) where
   pub covered-more : (m r c n : ℕ) (t u v : Trace) → Place p m r c → covers p d i r c ≡ true → Just m u → ((k : ℕ) → has v k ≡ one-of (has t k) (has u k)) → Covered p d i m t n → Covered p d i (m + 1) v (n + 1)
   covered-more m r c n t u v at on just joined before = record {
     each = λ k s e low here. ⊎-elim
-      (λ (same : k ≡ m). ap (has v) same ∙ at-place m r c s e (has v m) at (subst (λ (j : ℕ). Place p j s e) same here) (new ∙ sym on))
-      (λ other. old k other ∙ before .each k s e (omega arith) here)
-      (cases-eq k m);
+        (λ (same : k ≡ m). ap (has v) same ∙ at-place m r c s e (has v m) at (subst (λ (j : ℕ). Place p j s e) same here) (new ∙ sym on))
+        (λ other. old k other ∙ before .each k s e (omega arith) here)
+        (cases-eq k m);
     others = λ k h. old k (omega arith) ∙ before .others k (omega arith);
     count = ap (λ j. j + 1) (before .count ∙ count-same m (has t) (has v) (λ k h. sym (old k (omega arith)))) ∙ sym (count-on m (has v) new);
     bound = omega (arith, before .bound);

@@ -8,6 +8,7 @@ ghost use Rattle.tip_code.specs.Primes.{listed};
 ghost use Rattle.tip_code.specs.Stripe.{parity-cell, parity-column, data-cell, line-of, crossing, covers, cell-index, Lines, chains-in, Numbered, Concerned};
 ghost use Rattle.tip_code.specs.declared.chain.Direction.the-variants.{Row, Diagonal, Antidiagonal};
 use super::geometry::Geometry;
+use std::fmt;
 
 /// A cell of a stripe: its row, from 0 to p - 2, and its column, from 0 to p.
 #[derive(Clone, Copy, PartialEq, Eq, Debug)]
@@ -37,6 +38,19 @@ pub struct Parities {
     pub row: Cell,
     pub diagonal: Cell,
     pub antidiagonal: Cell,
+}
+
+/// The direction and the number of the line, as diagonal 3.
+pub impl fmt::Display for Chain as ChainDisplay {
+    fn fmt<W: fmt::Write>(&self, f: &mut fmt::Formatter<W>) -> fmt::Result {
+        let direction = match self.direction {
+            Direction::Row => "row",
+            Direction::Diagonal => "diagonal",
+            Direction::Antidiagonal => "antidiagonal",
+        };
+        let line = self.line;
+        write!(f, "{direction} {line}")
+    }
 }
 
 /// Whether the cell holds data.

@@ -25,8 +25,11 @@ use super::trace::Trace;
 use super::trace::TraceElement;
 use super::trace::just;
 use crate::chain::ChainDebug as _;
+use crate::chain::ChainDisplay;
 use crate::trace::TraceDebug;
+use crate::trace::TraceDisplay;
 use crate::trace::TracePartialEq;
+use std::fmt;
 
 /// The largest p whose places all have numbers that a trace can hold.
 pub const LARGEST_TRACED: usize = 11;
@@ -49,6 +52,15 @@ impl Finding {
         ensures { λ r. ⌜ Exactly r ((self .found ≡ self .expected) × (members (self .found) ≡ self .places)) ⌝ }
     {
         self.found == self.expected && self.found.count() == self.places
+    }
+}
+
+/// The chain, what was found and what was expected.
+pub impl fmt::Display for Finding as FindingDisplay {
+    fn fmt<W: fmt::Write>(&self, f: &mut fmt::Formatter<W>) -> fmt::Result {
+        let count = self.found.count();
+        write!(f, "{}: found {} ({count}), ", self.chain, self.found)?;
+        write!(f, "expected {} ({})", self.expected, self.places)
     }
 }
 
@@ -105,5 +117,10 @@ pub fn inspect(geometry: Geometry, cells: &[Trace], number: usize) -> Result<Opt
     };
     let found = cells[index_of(p, chain.line, chain.direction.parity_column(p, chain.line))];
     let (expected, places) = covered(p, chain);
-    Ok(Some(Finding { chain, found, expected, places }))
+    Ok(Some(Finding {
+        chain,
+        found,
+        expected,
+        places,
+    }))
 }

@@ -1,6 +1,8 @@
 // Stops: the refusals of the whole product.
 ghost use mathlib.Core.Path.{_≡_};
 ghost use Rattle.tip_code.specs.Stops.{number};
+use std::error::Error;
+use std::fmt;
 
 /// Why a call was refused. A call that several stops fit gives the one with the lowest number.
 #[derive(Clone, Copy, PartialEq, Eq, Debug)]
@@ -40,4 +42,34 @@ impl Stop {
     {
         self as u8
     }
+
+    /// The reason in a few words.
+    fn reason(self) -> &'static str {
+        match self {
+            Stop::Prime => "p is not one of the primes that are served",
+            Stop::Stripes => "the stripe count is 0 or above 4096",
+            Stop::Length => "a buffer has another length than is needed",
+            Stop::Losses => "sixteen losses are planned already",
+            Stop::Field => "a field is cut off",
+            Stop::Tag => "the tag of a field is unknown",
+            Stop::Body => "a body has another length than its tag asks",
+            Stop::Room => "fewer than 12 answer bytes are left",
+            Stop::Work => "the work buffer is too short",
+            Stop::Stripe => "the stripe is beyond the last",
+            Stop::Place => "the place is beyond the last",
+            Stop::Column => "a device or a lost column is above p",
+            Stop::Lost => "too many columns are lost",
+        }
+    }
 }
+
+/// The number and the reason, as "stop 3: a buffer has another length than is needed".
+pub impl fmt::Display for Stop as StopDisplay {
+    fn fmt<W: fmt::Write>(&self, f: &mut fmt::Formatter<W>) -> fmt::Result {
+        let reason = self.reason();
+        let number = self.number();
+        write!(f, "stop {number}: {reason}")
+    }
+}
+
+pub impl Error for Stop as StopError {}

@@ -6,6 +6,7 @@ ghost use Rattle.std.specs.Options.{Cases as BySome};
 ghost use Rattle.tip_code.specs.Laws.{Exactly};
 ghost use Rattle.tip_code.specs.Traces.{no-trace, trace-join, trace-laws, has, members, one-of, Just};
 use super::element::Element;
+use std::fmt;
 
 /// A set of numbers from 0 to 127, kept as the bits of two words.
 /// A join keeps each number that is in just one of the two sets.
@@ -64,7 +65,11 @@ impl Trace {
     pub fn single(number: usize) -> Option<Trace>
         ensures { λ r. ⌜ BySome r (128 ≤ number) (λ t. (number < 128) × Just number t) ⌝ }
     {
-        if number < 128 { Some(just(number)) } else { None }
+        if number < 128 {
+            Some(just(number))
+        } else {
+            None
+        }
     }
 
     /// Whether the number is in the set.
@@ -85,5 +90,21 @@ impl Trace {
         ensures { λ r. ⌜ r ≡ members self ⌝ }
     {
         self.low.count_ones() + self.high.count_ones()
+    }
+}
+
+/// The members in ascending order, as {0, 3, 7}.
+pub impl fmt::Display for Trace as TraceDisplay {
+    fn fmt<W: fmt::Write>(&self, f: &mut fmt::Formatter<W>) -> fmt::Result {
+        f.write_str("{")?;
+        let mut first = true;
+        for number in 0..128usize {
+            if self.has(number) {
+                let between = if first { "" } else { ", " };
+                write!(f, "{between}{number}")?;
+                first = false;
+            }
+        }
+        f.write_str("}")
     }
 }
