@@ -1,8 +1,9 @@
 -- The bits of a number, and how many of them are set.
 use mathlib.Core.Path.{_≡_, refl, sym, ap, ap₂, _∙_}
 use mathlib.Core.Bool.{Bool, true, false, cond}
+use mathlib.Core.Logic.{⊎-elim}
 use Prim.Native.Nat.{ℕ, zero, suc, _+_, _/_, _%_, _^_, _<_, _≤_, zero-le}
-use native.Mathlib.Nat.{add-zero, add-suc, div-one, div-eq-of-lt, pow-suc, lt-of-lt-of-le}
+use native.Mathlib.Nat.{add-zero, add-suc, div-eq-of-lt, pow-suc, lt-of-lt-of-le}
 use native.Mathlib.Numerals.{add-one, one-add}
 use native.Mathlib.Omega.{arith}
 use lib.Bits.{bitXor}
@@ -10,6 +11,7 @@ use lib.Count.{ones, ones-step}
 use lib.Dec.{eqb, eqb·suc-suc, lit<}
 use lib.Pow.{pow-mono}
 use Rattle.std.proofs.shelf.Bits.{ones-le, xor-shr, xor-mod, shr-shr, shr-below, mod-below}
+use Rattle.std.proofs.shelf.Tests.{cases-eq}
 use Rattle.std.proofs.shelf.Ways.{tells}
 use Rattle.tip_code.specs.Counts.{count-below}
 use Rattle.tip_code.specs.Traces.{bit, one-of}
@@ -69,14 +71,30 @@ count-split m (suc n) f =
     ap (λ k. count-below k f) (add-suc m n) ∙ count-more (f (m + n)) (count-below (m + n) f)
     ∙ omega (arith, count-split m n f, count-more (f (m + n)) (count-below n (λ i. f (m + i))))
 
--- A digit counts itself, for `ones-bits`.
-digit-count : (a : ℕ) → a < 2 → a ≡ cond (eqb a 1) 1 0
-digit-count a h = grind (arith, tells)
+-- Numbers from m on that fail the test add nothing to a count.
+pub count-short : (m n : ℕ) (f : ℕ → Bool) → m ≤ n → ((i : ℕ) → m ≤ i → f i ≡ false) → count-below n f ≡ count-below m f
+count-short m zero f h off = let e : zero ≡ m = omega arith in ap (λ k. count-below k f) e
+count-short m (suc n) f h off =
+    ⊎-elim (λ (e : suc n ≡ m). ap (λ k. count-below k f) e)
+    (λ (e : suc n ≡ m → ⊥). rw (off n (omega arith)) (count-short m n f (omega arith) off))
+    (cases-eq (suc n) m)
+
+-- The lowest digit, by the lowest bit.
+lowest : (x : ℕ) → x % 2 ≡ cond (bit x 0) 1 0
+lowest x = grind (arith, tells)
+
+-- Numbers of k bits with the same bits are equal.
+pub bits-same : (k x y : ℕ) → x < 2 ^ k → y < 2 ^ k → ((n : ℕ) → n < k → bit x n ≡ bit y n) → x ≡ y
+bits-same zero x y h l e = omega arith
+bits-same (suc k) x y h l e =
+    let halves : x / 2 ≡ y / 2 =
+    bits-same k (x / 2) (y / 2) (shr-below x k 1 (rw add-one h)) (shr-below y k 1 (rw add-one l)) (λ n low. sym (bit-half x n) ∙ e (1 + n) (omega arith) ∙ bit-half y n) in
+    let digits : x % 2 ≡ y % 2 = lowest x ∙ ap (λ b. cond b 1 0) (e 0 (omega arith)) ∙ sym (lowest y) in
+    omega arith
 
 -- The set bits of a number of k bits, counted one by one.
 pub ones-bits : (k x : ℕ) → x < 2 ^ k → ones x ≡ count-below k (bit x)
 ones-bits zero x h = omega (arith, ones-le 0 x h)
 ones-bits (suc k) x h =
-    let lowest = digit-count (x % 2) (mod-below x 2 (lit< tt)) ∙ ap (λ y. cond (eqb (y % 2) 1) 1 0) (sym (div-one x)) in
     let rest = ones-bits k (x / 2) (shr-below x k 1 (rw add-one h)) ∙ count-same k (bit (x / 2)) (λ i. bit x (1 + i)) (λ i _. sym (bit-half x i)) in
-    ones-step x ∙ ap₂ (λ a b. a + b) lowest rest ∙ sym (count-split 1 k (bit x)) ∙ ap (λ j. count-below j (bit x)) (one-add k)
+    ones-step x ∙ ap₂ (λ a b. a + b) (lowest x) rest ∙ sym (count-split 1 k (bit x)) ∙ ap (λ j. count-below j (bit x)) (one-add k)

@@ -18,12 +18,12 @@ use Rattle.tip_code.specs.Places.{Place}
 use Rattle.tip_code.specs.Primes.{listed}
 use Rattle.tip_code.specs.Stops.{number, First}
 use Rattle.tip_code.specs.Stripe.{covers}
-use Rattle.tip_code.specs.Traces.{bit, has, one-of, no-trace, Just}
+use Rattle.tip_code.specs.Traces.{bit, has, one-of, no-trace, trace-join, Just}
 use Rattle.tip_code.specs.declared.chain.Direction.{Direction}
 use Rattle.tip_code.specs.declared.stop.Stop.{Stop}
 use Rattle.tip_code.specs.declared.stop.Stop.the-variants as stop
 use Rattle.tip_code.specs.declared.trace.Trace.{Trace}
-use Rattle.tip_code.proofs.Bits.{bit-zero, count-same}
+use Rattle.tip_code.proofs.Bits.{bit-xor, bit-zero, count-same}
 use Rattle.tip_code.proofs.Numbers.{numbering}
 
 -- the numbers of places fit a trace
@@ -44,8 +44,12 @@ count-on m f e = rw (add-one, add-one, e)
 count-off : (m : ℕ) (f : ℕ → Bool) → f m ≡ false → count-below (m + 1) f ≡ count-below m f
 count-off m f e = rw (add-one, e)
 
+-- a number is in a join where it is in just one of the two sets, whichever word has its bit
+pub has-join : (x y : Trace) (n : ℕ) → has (trace-join x y) n ≡ one-of (has x n) (has y n)
+has-join x y n = grind (arith, bit-xor (x .low) (y .low) n, bit-xor (x .high) (y .high) (n - 64))
+
 -- joining a set with one that lacks the number, and joining a number that is new
-one-of-same : (a b : Bool) → b ≡ false → one-of a b ≡ a
+pub one-of-same : (a b : Bool) → b ≡ false → one-of a b ≡ a
 one-of-same true b e = ap not e
 one-of-same false b e = e
 

@@ -8,3 +8,4 @@ pub mod Lines
 pub mod Numbers
 pub mod Sizes
 pub mod Tables
+pub mod Tracing

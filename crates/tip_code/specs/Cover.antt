@@ -5,10 +5,11 @@ use mathlib.Core.List.{List}
 use Prim.Native.Nat.{ℕ, _<_, _≤_}
 use lib.ListN.{getD}
 use Rattle.tip_code.specs.Counts.{count-below}
+use Rattle.tip_code.specs.Encoding.{Encodes}
 use Rattle.tip_code.specs.Geometry.{places-in}
 use Rattle.tip_code.specs.Places.{Place}
 use Rattle.tip_code.specs.Stripe.{covers, parity-column, stripe-of, Numbered}
-use Rattle.tip_code.specs.Traces.{has, no-trace, Just}
+use Rattle.tip_code.specs.Traces.{has, members, no-trace, trace-join, Just, Alike}
 use Rattle.tip_code.specs.declared.chain.Direction.{Direction}
 use Rattle.tip_code.specs.declared.cover.Finding.{Finding}
 use Rattle.tip_code.specs.declared.stop.Stop.{Stop}
@@ -30,6 +31,8 @@ pub record Found (p : ℕ) (cells : List Trace) (n : ℕ) (f : Finding) : Type 0
   pub chain : Numbered p (f .chain .direction) (f .chain .line) n
   pub found : f .found ≡ stripe-of no-trace p cells (f .chain .line) (parity-column p (f .chain .direction) (f .chain .line))
   pub cover : Cover p (f .chain .direction) (f .chain .line) (f .expected) (f .places)
+  -- in an encoded stripe whose places hold their own numbers, every parity holds just the places that it covers
+  pub encoded : (g : ℕ → Trace) → ((k : ℕ) → k < places-in p → Just k (g k)) → Encodes no-trace trace-join p g (stripe-of no-trace p cells) → Alike (f .found) (f .expected) × (members (f .found) ≡ f .places)
 
 -- When traces of places are refused: some number of a place is past 127, or the buffer has another length.
 pub data Cover-stop (p length needed : ℕ) : Stop → Type 0 where

@@ -20,6 +20,10 @@ has t n = cond (ltb n 64) (bit (t .low) n) (bit (t .high) (n - 64))
 abbrev pub Just : ℕ → Trace → Type 0
 Just k t = (n : ℕ) → has t n ≡ eqb n k
 
+-- The same set: each number is in both, or in neither.
+abbrev pub Alike : Trace → Trace → Type 0
+Alike t u = (n : ℕ) → has t n ≡ has u n
+
 -- How many numbers are in the set.
 unfoldable pub members : Trace → ℕ
 members t = count-below 128 (has t)

@@ -13,7 +13,7 @@ ghost use Rattle.tip_code.specs.Laws.{Exactly};
 ghost use Rattle.tip_code.specs.Primes.{listed};
 ghost use Rattle.tip_code.specs.Stops.{Stopped};
 ghost use Rattle.tip_code.specs.Stripe.{chains-in};
-ghost use Rattle.tip_code.specs.Traces.{members};
+ghost use Rattle.tip_code.specs.Traces.{members, Alike};
 use super::chain::Chain;
 use super::chain::index_of;
 use super::chain::on_line;
@@ -49,7 +49,7 @@ pub struct Finding {
 impl Finding {
     /// Whether the parity holds what it should, by its members and by their count.
     pub fn agrees(self) -> bool
-        ensures { λ r. ⌜ Exactly r ((self .found ≡ self .expected) × (members (self .found) ≡ self .places)) ⌝ }
+        ensures { λ r. ⌜ Exactly r (Alike (self .found) (self .expected) × (members (self .found) ≡ self .places)) ⌝ }
     {
         self.found == self.expected && self.found.count() == self.places
     }

@@ -5,8 +5,10 @@ use lib.ListN.{length, getD}
 use Rattle.tip_code.specs.Cover.{Cover}
 use Rattle.tip_code.specs.Geometry.{prime-of, cells-in}
 use Rattle.tip_code.specs.Stripe.{cell-index, parity-column}
-use Rattle.tip_code.specs.Traces.{no-trace}
+use Rattle.tip_code.specs.Traces.{has, no-trace}
 use Rattle.tip_code.proofs.Covering.{cover-prime, cover-length, cover-none}
+use Rattle.tip_code.proofs.Sizes.{valid}
+use Rattle.tip_code.proofs.Tracing.{traced, counted}
 use Rattle.tip_code.proofs.cover.inspect.Needs as need
 
 pub returns-then-p-gt-LARGEST-TRACED : need.returns-then-p-gt-LARGEST-TRACED
@@ -38,11 +40,16 @@ returns c =
     let at : c .index-of .result ≡ cell-index p (chain .line) (parity-column p (chain .direction) (chain .line)) =
     c .index-of .ensures .value ∙ ap (cell-index (c .prime-p .result) (chain .line)) (c .parity-column .ensures .value)
     ∙ ap (λ q. cell-index q (chain .line) (parity-column q (chain .direction) (chain .line))) is in
+    let found = ap (λ n. getD (c .args .cells .now) n no-trace) at in
+    let cover = subst (λ (q : ℕ). Cover q (chain .direction) (chain .line) (c .covered-places .result .0) (c .covered-places .result .1)) is (c .covered-places .ensures) in
     record {
       stop = cover-none p (length (c .args .cells .now)) (cells-in p) (omega (arith, is)) (c .if-cells .left ∙ c .cells .ensures);
       value = record {
         chain = c .in-Some .ensures tt;
-        found = ap (λ n. getD (c .args .cells .now) n no-trace) at;
-        cover = subst (λ (q : ℕ). Cover q (chain .direction) (chain .line) (c .covered-places .result .0) (c .covered-places .result .1)) is (c .covered-places .ensures);
+        found = found;
+        cover = cover;
+        encoded = λ g own is-encoded.
+            let alike = λ (k : ℕ). ap (λ s. has s k) found ∙ traced p (valid (c .args .geometry) .prime) (chain .direction) (chain .line) (c .in-Some .ensures tt .line) g own _ is-encoded _ _ cover k in
+            (alike, counted p (omega (arith, is)) (chain .direction) (chain .line) _ _ _ alike cover);
       };
     }
