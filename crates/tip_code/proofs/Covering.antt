@@ -6,11 +6,11 @@ use mathlib.Core.List.{List}
 use Prim.Native.Nat.{ℕ, zero, suc, _+_, _-_, _*_, _<_, _≤_}
 use native.Mathlib.Numerals.{add-one}
 use native.Mathlib.Omega.{arith}
-use lib.Dec.{eqb, ltb}
+use lib.Dec.{eqb, ltb, leb}
 use lib.ListN.{length, getD, set}
 use lib.Seq.{getD-set-same, getD-set-other}
 use Rattle.std.proofs.shelf.Bits.{mul-le}
-use Rattle.std.proofs.shelf.Tests.{cases-eq, eq-eqb, ne-eqb, cond-both}
+use Rattle.std.proofs.shelf.Tests.{cases-eq, eq-eqb, ne-eqb, cond-both, leb-true, leb-false}
 use Rattle.tip_code.specs.Counts.{count-below}
 use Rattle.tip_code.specs.Cover.{Cover, Cover-stop, too-large, wrong-length}
 use Rattle.tip_code.specs.Geometry.{places-in}
@@ -39,7 +39,7 @@ pub record Covered (p : ℕ) (d : Direction) (i m : ℕ) (t : Trace) (n : ℕ) :
 
 -- one number more is counted, or not
 count-on : (m : ℕ) (f : ℕ → Bool) → f m ≡ true → count-below (m + 1) f ≡ count-below m f + 1
-count-on m f e = rw (add-one, add-one, e)
+count-on m f e = ap (λ k. count-below k f) (add-one m) ∙ rw e (sym (add-one (count-below m f)))
 
 count-off : (m : ℕ) (f : ℕ → Bool) → f m ≡ false → count-below (m + 1) f ≡ count-below m f
 count-off m f e = rw (add-one, e)
@@ -118,23 +118,23 @@ own-more m xs t h just before n low k =
 
 -- which stop a buffer of traces gets
 module _ (p have need : ℕ) where
-  pub cover-prime : 12 ≤ p → First (Cover-stop p have need) stop.Prime
-  cover-prime h = record { this = too-large h; lower = λ t l f. under f l }
+  pub cover-prime : leb p 11 ≡ false → First (Cover-stop p have need) stop.Prime
+  cover-prime h = record { this = too-large (leb-false p 11 h); lower = λ t l f. under f l }
     where
       under : {t : Stop} → Cover-stop p have need t → number t < 1 → ⊥
       under (too-large h) l = omega arith
       under (wrong-length h) l = omega arith
 
-  pub cover-length : p ≤ 11 → (have ≡ need → ⊥) → First (Cover-stop p have need) stop.Length
+  pub cover-length : leb p 11 ≡ true → (have ≡ need → ⊥) → First (Cover-stop p have need) stop.Length
   cover-length low h = record { this = wrong-length h; lower = λ t l f. under f l }
     where
       under : {t : Stop} → Cover-stop p have need t → number t < 3 → ⊥
-      under (too-large h) l = omega arith
+      under (too-large h) l = omega (arith, leb-true p 11 low)
       under (wrong-length h) l = omega arith
 
-  pub cover-none : p ≤ 11 → have ≡ need → (t : Stop) → Cover-stop p have need t → ⊥
+  pub cover-none : leb p 11 ≡ true → have ≡ need → (t : Stop) → Cover-stop p have need t → ⊥
   cover-none low e t f = under f
     where
       under : {t : Stop} → Cover-stop p have need t → ⊥
-      under (too-large h) = omega arith
+      under (too-large h) = omega (arith, leb-true p 11 low)
       under (wrong-length h) = h e

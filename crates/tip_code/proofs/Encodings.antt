@@ -1,11 +1,11 @@
 -- The encoding exists and is the only one; which stop an encode gets.
 use mathlib.Core.Path.{_≡_, refl, sym, ap, subst, _∙_}
-use mathlib.Core.Bool.{Bool, true, false, cond}
-use mathlib.Core.Logic.{_⊎_, ⊎-elim}
+use mathlib.Core.Bool.{Bool, true, false, cond, _&&_}
+use mathlib.Core.Logic.{⊎-elim}
 use Prim.Native.Nat.{ℕ, _+_, _-_, _<_, _≤_}
 use native.Mathlib.Omega.{arith}
 use lib.Dec.{eqb}
-use Rattle.std.proofs.shelf.Tests.{cond-true, cond-false, eq-eqb, ne-eqb, cases-bool}
+use Rattle.std.proofs.shelf.Tests.{cond-true, cond-false, eq-eqb, ne-eqb, cases-bool, eqb-true, eqb-false, and-parts, and-cases}
 use Rattle.tip_code.specs.Encoding.{line-join, Encoded, Encodes, encoding, One-encoding, Encode-stop, values-length, cells-length}
 use Rattle.tip_code.specs.Geometry.{cells-in, places-in}
 use Rattle.tip_code.specs.Places.{Place, place-number}
@@ -77,16 +77,20 @@ module _ {E : Type 0} (none : E) (join : E → E → E) (p : ℕ) (t : listed p 
   one-encoding = record { exists = exists; only = only }
 
 module _ (p m n : ℕ) where
-  pub encode-first : (m ≡ places-in p → ⊥) ⊎ (n ≡ cells-in p → ⊥) → First (Encode-stop p m n) stop.Length
-  encode-first h = record { this = ⊎-elim values-length cells-length h; lower = λ t l f. under f l }
+  pub encode-first : (eqb m (places-in p) && eqb n (cells-in p)) ≡ false → First (Encode-stop p m n) stop.Length
+  encode-first h = record { this = ⊎-elim (λ e. values-length (eqb-false m (places-in p) e)) (λ e. cells-length (eqb-false n (cells-in p) e)) (and-cases _ _ h); lower = λ t l f. under f l }
     where
       under : {t : Stop} → Encode-stop p m n t → number t < 3 → ⊥
       under (values-length h) l = omega arith
       under (cells-length h) l = omega arith
 
-  pub encode-none : m ≡ places-in p → n ≡ cells-in p → (t : Stop) → Encode-stop p m n t → ⊥
-  encode-none e d t f = under f
+  -- the two lengths, where the test passes
+  pub lengths : (eqb m (places-in p) && eqb n (cells-in p)) ≡ true → (m ≡ places-in p) × (n ≡ cells-in p)
+  lengths h = let both = and-parts _ _ h in (eqb-true m (places-in p) (both .0), eqb-true n (cells-in p) (both .1))
+
+  pub encode-none : (eqb m (places-in p) && eqb n (cells-in p)) ≡ true → (t : Stop) → Encode-stop p m n t → ⊥
+  encode-none e t f = under f
     where
       under : {t : Stop} → Encode-stop p m n t → ⊥
-      under (values-length h) = h e
-      under (cells-length h) = h d
+      under (values-length h) = h (lengths e .0)
+      under (cells-length h) = h (lengths e .1)

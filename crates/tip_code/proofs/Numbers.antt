@@ -130,14 +130,14 @@ module _ (p : ℕ) (t : listed p ≡ true) where
 
 -- which stop a place gets
 module _ (p n : ℕ) where
-  pub place-first : places-in p ≤ n → First (Place-stop p n) stop.Place
-  place-first h = record { this = no-place h; lower = λ t l f. under f l }
+  pub place-first : ltb n (places-in p) ≡ false → First (Place-stop p n) stop.Place
+  place-first h = record { this = no-place (ltb-false n (places-in p) h); lower = λ t l f. under f l }
     where
       under : {t : Stop} → Place-stop p n t → number t < 11 → ⊥
       under (no-place h) l = omega arith
 
-  pub place-none : n < places-in p → (t : Stop) → Place-stop p n t → ⊥
+  pub place-none : ltb n (places-in p) ≡ true → (t : Stop) → Place-stop p n t → ⊥
   place-none h t f = under f
     where
       under : {t : Stop} → Place-stop p n t → ⊥
-      under (no-place l) = omega arith
+      under (no-place l) = omega (arith, ltb-true n (places-in p) h)

@@ -13,7 +13,7 @@ unfoldable pub prime-of : Geometry → ℕ
 prime-of g = getD primes (min (g .rank) 9) 0
 
 -- Its number of stripes: at most 4096, and at least one.
-unfoldable pub stripes-of : Geometry → ℕ
+abbrev pub stripes-of : Geometry → ℕ
 stripes-of g = min (g .last) 4095 + 1
 
 -- What every geometry keeps.

@@ -1,7 +1,8 @@
 // The cells of a stripe, the lines through them and the chains.
 ghost use mathlib.Core.Path.{_≡_};
-ghost use mathlib.Core.Bool.{true, false};
+ghost use mathlib.Core.Bool.{true, false, not, _&&_};
 ghost use Prim.Native.Nat.{ℕ, _+_, _-_, _*_, _<_, _≤_};
+ghost use lib.Dec.{eqb};
 ghost use Rattle.std.specs.Options.{Cases as BySome};
 ghost use Rattle.tip_code.specs.Geometry.{prime-of};
 ghost use Rattle.tip_code.specs.Primes.{listed};
@@ -53,13 +54,21 @@ pub impl fmt::Display for Chain as ChainDisplay {
     }
 }
 
+/// Whether a cell below column p is neither the parity of a diagonal nor that of an antidiagonal.
+fn off_parity(p: usize, row: usize, column: usize) -> bool
+    requires { ⌜ row < p - 1 ⌝ }
+    ensures { λ r. ⌜ r ≡ (not (eqb column (row + 1)) && not (eqb column (p - 1 - row))) ⌝ }
+{
+    (column != row + 1) & (column != p - 1 - row)
+}
+
 /// Whether the cell holds data.
 pub(crate) fn is_data(p: usize, row: usize, column: usize) -> bool
     requires { ⌜ 3 ≤ p ⌝ }
     ensures { λ r. ⌜ r ≡ data-cell p row column ⌝ }
 {
     if row < p - 1 && column < p {
-        (column != row + 1) & (column != p - 1 - row)
+        off_parity(p, row, column)
     } else {
         false
     }

@@ -3,6 +3,7 @@
 ghost use mathlib.Core.Path.{_≡_};
 ghost use mathlib.Core.Bool.{true};
 ghost use Prim.Native.Nat.{ℕ, _+_, _-_, _*_, _<_, _≤_};
+ghost use lib.Dec.{leb};
 ghost use lib.ListN.{length};
 ghost use Rattle.std.specs.Options.{Cases as BySome};
 ghost use Rattle.std.specs.Results.{Cases};
@@ -64,6 +65,13 @@ pub impl fmt::Display for Finding as FindingDisplay {
     }
 }
 
+/// Whether a trace can hold the number of every place.
+fn is_traced(geometry: Geometry) -> bool
+    ensures { λ r. ⌜ r ≡ leb (prime-of geometry) 11 ⌝ }
+{
+    geometry.prime() <= LARGEST_TRACED
+}
+
 /// The places that a chain's parity covers, and how many there are.
 fn covered(p: usize, chain: Chain) -> (Trace, u32)
     requires { ⌜ (listed p ≡ true) × (p ≤ 11) ⌝ }
@@ -86,7 +94,7 @@ pub fn own_numbers(geometry: Geometry, values: &mut [Trace]) -> Result<(), Stop>
     ensures stop { λ r. ⌜ Stopped (Cover-stop (prime-of geometry) (length (now (values .entry))) (places-in (prime-of geometry))) r ⌝ }
     ensures values { λ r. ⌜ Cases r (λ _. Own (prime-of geometry) (now (values .exit))) (λ _. now (values .exit) ≡ now (values .entry)) ⌝ }
 {
-    if geometry.prime() > LARGEST_TRACED {
+    if !is_traced(geometry) {
         return Err(Stop::Prime);
     }
     if values.len() != geometry.places() {
@@ -105,13 +113,13 @@ pub fn inspect(geometry: Geometry, cells: &[Trace], number: usize) -> Result<Opt
     ensures stop { λ r. ⌜ Stopped (Cover-stop (prime-of geometry) (length (now (cells .entry))) (cells-in (prime-of geometry))) r ⌝ }
     ensures value { λ r. ⌜ made r (λ o. BySome o (chains-in (prime-of geometry) ≤ number) (λ f. Found (prime-of geometry) (now (cells .entry)) number f)) ⌝ }
 {
-    let p = geometry.prime();
-    if p > LARGEST_TRACED {
+    if !is_traced(geometry) {
         return Err(Stop::Prime);
     }
     if cells.len() != geometry.cells() {
         return Err(Stop::Length);
     }
+    let p = geometry.prime();
     let Some(chain) = geometry.chain(number) else {
         return Ok(None);
     };

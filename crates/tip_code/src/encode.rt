@@ -1,7 +1,8 @@
 // Encoding: from the elements of a stripe's places to all its cells.
 ghost use mathlib.Core.Path.{_≡_};
-ghost use mathlib.Core.Bool.{true};
+ghost use mathlib.Core.Bool.{true, _&&_};
 ghost use Prim.Native.Nat.{ℕ, _+_, _-_, _*_, _<_, _≤_};
+ghost use lib.Dec.{eqb};
 ghost use lib.ListN.{length, getD};
 ghost use Rattle.std.specs.Results.{Cases};
 ghost use Rattle.tip_code.specs.Encoding.{line-join, Filled, Encodes, Encode-stop, One-encoding};
@@ -17,6 +18,13 @@ use super::element::Element;
 use super::geometry::Geometry;
 use super::places::place_cell;
 use super::stop::Stop;
+
+/// Whether buffers of these lengths are those of a stripe's places and cells.
+fn is_sized(geometry: Geometry, values: usize, cells: usize) -> bool
+    ensures { λ r. ⌜ r ≡ (eqb values (places-in (prime-of geometry)) && eqb cells (cells-in (prime-of geometry))) ⌝ }
+{
+    (values == geometry.places()) & (cells == geometry.cells())
+}
 
 /// The join of the data cells of a line.
 fn line_join<E: Element>(p: usize, cells: &[E], direction: Direction, line: usize) -> E
@@ -63,7 +71,7 @@ pub fn encode<E: Element>(geometry: Geometry, values: &[E], cells: &mut [E]) -> 
     ensures cells { λ r. ⌜ Cases r (λ _. Encodes zero join (prime-of geometry) (λ n. getD (now (values .entry)) n zero) (stripe-of zero (prime-of geometry) (now (cells .exit)))) (λ _. now (cells .exit) ≡ now (cells .entry)) ⌝ }
     ensures one { λ _. ⌜ One-encoding zero join (prime-of geometry) ⌝ }
 {
-    if values.len() != geometry.places() || cells.len() != geometry.cells() {
+    if !is_sized(geometry, values.len(), cells.len()) {
         return Err(Stop::Length);
     }
     let p = geometry.prime();

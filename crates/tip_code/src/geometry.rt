@@ -1,7 +1,8 @@
 // The sizes of an array.
 ghost use mathlib.Core.Path.{_≡_};
-ghost use mathlib.Core.Bool.{true, false};
+ghost use mathlib.Core.Bool.{true, false, _&&_};
 ghost use Prim.Native.Nat.{ℕ, _+_, _-_, _*_, _<_, _≤_};
+ghost use lib.Dec.{leb};
 ghost use lib.ListN.{getD};
 ghost use Rattle.std.specs.Options.{Cases as BySome};
 ghost use Rattle.std.specs.Vec.{made};
@@ -24,12 +25,27 @@ pub struct Geometry {
     last: u16,
 }
 
+/// The prime of a rank.
+fn prime_at(rank: u8) -> usize
+    requires { ⌜ rank < 10 ⌝ }
+    ensures { λ r. ⌜ r ≡ getD primes rank 0 ⌝ }
+{
+    PRIMES[rank as usize] as usize
+}
+
+/// Whether an array may have this number of stripes.
+fn in_range(stripes: usize) -> bool
+    ensures { λ r. ⌜ r ≡ (leb 1 stripes && leb stripes 4096) ⌝ }
+{
+    (1 <= stripes) & (stripes <= MOST_STRIPES)
+}
+
 /// Where p stands in the table of primes.
 fn rank_of(p: usize) -> Option<u8>
     ensures { λ r. ⌜ BySome r (listed p ≡ false) (λ e. (e < 10) × (getD primes e 0 ≡ p) × (listed p ≡ true)) ⌝ }
 {
     for rank in 0..10u8 {
-        if PRIMES[rank as usize] as usize == p {
+        if prime_at(rank) == p {
             return Some(rank);
         }
     }
@@ -46,7 +62,7 @@ impl Geometry {
         let Some(rank) = rank_of(p) else {
             return Err(Stop::Prime);
         };
-        if stripes == 0 || stripes > MOST_STRIPES {
+        if !in_range(stripes) {
             return Err(Stop::Stripes);
         }
         Ok(Geometry {
@@ -63,7 +79,7 @@ impl Geometry {
         ensures high { λ r. ⌜ r ≤ 31 ⌝ }
         ensures facts { λ r. ⌜ Prime-facts r ⌝ }
     {
-        PRIMES[self.rank.min(9) as usize] as usize
+        prime_at(self.rank.min(9))
     }
 
     /// How many stripes the array has.

@@ -2,6 +2,7 @@
 ghost use mathlib.Core.Path.{_≡_};
 ghost use mathlib.Core.Bool.{true};
 ghost use Prim.Native.Nat.{ℕ, _+_, _-_, _*_, _<_, _≤_};
+ghost use lib.Dec.{ltb};
 ghost use Rattle.std.specs.Vec.{made};
 ghost use Rattle.tip_code.specs.Counts.{count-below};
 ghost use Rattle.tip_code.specs.Geometry.{prime-of, places-in};
@@ -42,6 +43,13 @@ pub(crate) fn place_cell(p: usize, place: usize) -> Cell
     Cell { row, column }
 }
 
+/// Whether the stripe has the place.
+fn has_place(geometry: Geometry, place: usize) -> bool
+    ensures { λ r. ⌜ r ≡ ltb place (places-in (prime-of geometry)) ⌝ }
+{
+    place < geometry.places()
+}
+
 impl Geometry {
     /// The cell of a place; each place is one cell, and each data cell one place.
     /// Stop 11: the place is not below (p - 1)(p - 2).
@@ -50,7 +58,7 @@ impl Geometry {
         ensures value { λ r. ⌜ made r (λ c. Place (prime-of self) place (c .row) (c .column)) ⌝ }
         ensures numbering { λ _. ⌜ Numbering (prime-of self) ⌝ }
     {
-        if place >= self.places() {
+        if !has_place(self, place) {
             return Err(Stop::Place);
         }
         Ok(place_cell(self.prime(), place))

@@ -1,7 +1,8 @@
 // Traces: sets of small numbers.
 ghost use mathlib.Core.Path.{_≡_};
 ghost use mathlib.Core.Bool.{true};
-ghost use Prim.Native.Nat.{ℕ, _<_, _≤_};
+ghost use Prim.Native.Nat.{ℕ, _+_, _<_, _≤_};
+ghost use lib.Count.{ones};
 ghost use Rattle.std.specs.Options.{Cases as BySome};
 ghost use Rattle.tip_code.specs.Laws.{Exactly};
 ghost use Rattle.tip_code.specs.Traces.{no-trace, trace-join, trace-laws, has, members, one-of, Just};
@@ -31,15 +32,29 @@ pub impl Element for Trace as TraceElement {
         ensures value { λ r. ⌜ r ≡ trace-join self other ⌝ }
         ensures either { λ r. ⌜ ((n : ℕ) → has r n ≡ one-of (has self n) (has other n)) ⌝ }
     {
-        Trace {
-            low: self.low ^ other.low,
-            high: self.high ^ other.high,
-        }
+        difference(self, other)
     }
 
     fn is_zero(self) -> bool {
         self.low == 0 && self.high == 0
     }
+}
+
+/// The numbers that are in just one of the two sets.
+fn difference(a: Trace, b: Trace) -> Trace
+    ensures { λ r. ⌜ r ≡ trace-join a b ⌝ }
+{
+    Trace {
+        low: a.low ^ b.low,
+        high: a.high ^ b.high,
+    }
+}
+
+/// How many bits of the two words are set.
+fn ones_of(low: u64, high: u64) -> u32
+    ensures { λ r. ⌜ r ≡ ones low + ones high ⌝ }
+{
+    low.count_ones() + high.count_ones()
 }
 
 /// The set that holds just this number.
@@ -89,7 +104,7 @@ impl Trace {
     pub fn count(self) -> u32
         ensures { λ r. ⌜ r ≡ members self ⌝ }
     {
-        self.low.count_ones() + self.high.count_ones()
+        ones_of(self.low, self.high)
     }
 }
 

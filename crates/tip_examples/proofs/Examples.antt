@@ -2,7 +2,7 @@
 use mathlib.Core.Path.{_≡_, refl, sym, ap, _∙_}
 use mathlib.Core.Bool.{Bool, true, _&&_, _||_}
 use mathlib.Core.List.{List, [], _∷_}
-use mathlib.Core.Logic.{inl, inr, ⊎-elim}
+use mathlib.Core.Logic.{⊎-elim}
 use Prim.Native.Nat.{ℕ, suc, _+_, _-_, _<_, _≤_}
 use native.Mathlib.Omega.{arith}
 use lib.Bits.{bitXor, xor-zero-r}
@@ -97,7 +97,7 @@ unfolding data-cell place-number
 worked = record {
   place-four = record { holds = refl; numbered = refl };
   place-eleven = record { holds = refl; numbered = refl };
-  place-twelve = place-first 5 12 (lit≤ tt);
+  place-twelve = place-first 5 12 refl;
   concerned = record { holds = refl; by-row = refl; by-diagonal = refl; by-antidiagonal = refl };
   parity = parity-is;
   counting = counting-is;
@@ -106,6 +106,6 @@ worked = record {
   ones = ones-are;
   smallest = smallest-is;
   nine = λ n. size-prime 9 n refl;
-  most = size-none 5 4096 refl (lit≤ tt) (lit≤ tt);
-  too-many = size-stripes 5 4097 refl (inr (lit≤ tt));
+  most = size-none 5 4096 refl refl;
+  too-many = size-stripes 5 4097 refl refl;
 }

@@ -4,5 +4,4 @@ ghost use Rattle.tip_examples.specs.Worked.{Worked};
 /// Does nothing: its contract is the table.
 pub fn worked_examples()
     ensures { λ _. ⌜ Worked ⌝ }
-{
-}
+{}

@@ -1,4 +1,4 @@
-use mathlib.Core.Path.{sym}
+use mathlib.Core.Path.{sym, _∙_}
 use native.Mathlib.Omega.{arith}
 use Rattle.tip_code.proofs.Cells.{data-last, data-not}
 use Rattle.tip_code.proofs.chain.is_data.Needs as need
@@ -6,7 +6,7 @@ use Rattle.tip_code.proofs.chain.is_data.Needs.{else-row-p·by·then-row-p·el
 
 pub returns-then-column-p : need.returns-then-column-p
 returns-then-column-p c =
-    sym (data-last (c .args .p) (c .args .row) (c .args .column) (c .if-row-p .taken) (c .if-column-p .taken))
+    c .off-parity .ensures ∙ sym (data-last (c .args .p) (c .args .row) (c .args .column) (c .if-row-p .taken) (c .if-column-p .taken))
 
 pub returns-else-row-p : need.returns-else-row-p
 returns-else-row-p c = sym (data-not (c .args .p) (c .args .row) (c .args .column) (λ d.

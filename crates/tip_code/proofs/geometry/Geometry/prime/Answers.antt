@@ -1,4 +1,4 @@
-use mathlib.Core.Path.{_≡_, sym, ap, subst}
+use mathlib.Core.Path.{_≡_, sym, ap, subst, _∙_}
 use Prim.Native.Nat.{ℕ, _≤_}
 use native.Mathlib.Omega.{arith}
 use lib.ListN.{getD}
@@ -11,7 +11,7 @@ use Rattle.tip_code.proofs.geometry.Geometry.prime.Needs as need
 pub returns : need.returns
 unfolding prime-of
 returns c =
-    let e : getD primes (c .min .result) 0 ≡ prime-of (c .args .self) = ap (λ k. getD primes k 0) (c .min .ensures) in
+    let e : c .prime-at .result ≡ prime-of (c .args .self) = c .prime-at .ensures ∙ ap (λ k. getD primes k 0) (c .min .ensures) in
     let f = facts (c .args .self) in
     record {
       value = e;

@@ -2,7 +2,6 @@
 use mathlib.Core.Path.{_≡_, sym, ap₂, _∙_}
 use Prim.Native.Nat.{ℕ, _+_, _<_}
 use native.Mathlib.Omega.{arith}
-use Rattle.std.proofs.shelf.Bits.{ones-le}
 use Rattle.std.proofs.shelf.Ways.{tells}
 use Rattle.tip_code.specs.Traces.{bit, has, members}
 use Rattle.tip_code.specs.declared.trace.Trace.{Trace}
@@ -17,15 +16,12 @@ in-low t i h = grind (arith, tells)
 in-high : (t : Trace) (i : ℕ) → i < 64 → bit (t .high) i ≡ has t (64 + i)
 in-high t i h = grind (arith, tells)
 
-pub add-result : need.add-result
-add-result c =
-    let t = c .args .self in omega (arith, ones-le 64 (t .low) (omega arith), ones-le 64 (t .high) (omega arith))
-
 pub returns : need.returns
 unfolding members
 returns c =
     let t = c .args .self in
-    ap₂ (λ x y. x + y)
+    c .ones-of .ensures
+    ∙ ap₂ (λ x y. x + y)
     (ones-bits 64 (t .low) (omega arith) ∙ count-same 64 (bit (t .low)) (has t) (in-low t))
     (ones-bits 64 (t .high) (omega arith) ∙ count-same 64 (bit (t .high)) (λ i. has t (64 + i)) (in-high t))
     ∙ sym (count-split 64 64 (has t))
