@@ -18,7 +18,7 @@ use Rattle.tip_code.specs.declared.stop.Stop.{Stop}
 use Rattle.tip_code.specs.declared.stop.Stop.the-variants as stop
 use Rattle.tip_code.proofs.Cells.{Data, data-not, parity-cases}
 use Rattle.tip_code.proofs.Filling.{parity-no-data}
-use Rattle.tip_code.proofs.Joins.{line-same}
+use Rattle.tip_code.proofs.Data.{line-same}
 use Rattle.tip_code.proofs.Tables.{prime-facts}
 
 module _ {E : Type 0} (none : E) (join : E → E → E) (p : ℕ) (t : listed p ≡ true) where

@@ -10,14 +10,14 @@ use lib.Seq.{getD-set-same, getD-set-other}
 use Rattle.std.proofs.shelf.Tests.{cases-eq}
 use Rattle.tip_code.specs.Encoding.{line-join, Filled, Encoded, Encodes}
 use Rattle.tip_code.specs.Geometry.{cells-in, places-in}
-use Rattle.tip_code.specs.Laws.{Laws}
+use Rattle.tip_element.specs.Laws.{Laws}
 use Rattle.tip_code.specs.Places.{Place, place-number}
 use Rattle.tip_code.specs.Primes.{listed, Prime-facts}
 use Rattle.tip_code.specs.Stripe.{cell-index, stripe-of, data-cell, parity-column}
 use Rattle.tip_code.specs.declared.chain.Direction.{Direction}
 use Rattle.tip_code.specs.declared.chain.Direction.the-variants.{Row, Diagonal, Antidiagonal}
 use Rattle.tip_code.proofs.Cells.{Data, data-facts, index-apart, index-within}
-use Rattle.tip_code.proofs.Joins.{line-same}
+use Rattle.tip_code.proofs.Data.{line-same}
 use Rattle.tip_code.proofs.Numbers.{numbering}
 use Rattle.tip_code.proofs.Tables.{prime-facts}
 

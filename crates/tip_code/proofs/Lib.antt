@@ -1,11 +1,8 @@
-pub mod Bits
 pub mod Cells
-pub mod Covering
+pub mod Data
 pub mod Encodings
 pub mod Filling
-pub mod Joins
 pub mod Lines
 pub mod Numbers
 pub mod Sizes
 pub mod Tables
-pub mod Tracing

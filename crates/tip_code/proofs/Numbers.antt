@@ -8,7 +8,7 @@ use mathlib.Core.Logic.{⊎-elim}
 use lib.Dec.{eqb, ltb}
 use Rattle.std.proofs.shelf.Bits.{mul-add-lt, div-mul-add, mod-mul-add, div-below, mod-below, div-add-mod'}
 use Rattle.std.proofs.shelf.Tests.{and-parts, or-cases, ltb-true, eqb-true, ltb-false, not-true, cond-both, both-ways}
-use Rattle.tip_code.specs.Counts.{join-below, count-below}
+use Rattle.tip_element.specs.Counts.{join-below, count-below}
 use Rattle.tip_code.specs.Geometry.{places-in}
 use Rattle.tip_code.specs.Places.{Place, place-number, Numbering, Place-stop, no-place}
 use Rattle.tip_code.specs.Primes.{primes, listed}

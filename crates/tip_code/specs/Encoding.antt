@@ -5,7 +5,7 @@ use mathlib.Core.List.{List}
 use Prim.Native.Nat.{ℕ, _-_, _+_, _<_, _≤_}
 use lib.Dec.{eqb}
 use lib.ListN.{length, getD}
-use Rattle.tip_code.specs.Counts.{join-below}
+use Rattle.tip_element.specs.Counts.{join-below}
 use Rattle.tip_code.specs.Geometry.{cells-in, places-in}
 use Rattle.tip_code.specs.Places.{Place, place-number}
 use Rattle.tip_code.specs.Stripe.{data-cell, crossing, parity-column}

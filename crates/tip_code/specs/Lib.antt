@@ -1,11 +1,6 @@
-pub mod Counts
-pub mod Cover
 pub mod Encoding
 pub mod Geometry
-pub mod Laws
 pub mod Places
 pub mod Primes
 pub mod Stops
 pub mod Stripe
-pub mod Traces
-pub mod Words

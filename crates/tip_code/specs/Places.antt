@@ -2,7 +2,7 @@
 use mathlib.Core.Path.{_≡_}
 use mathlib.Core.Bool.{true}
 use Prim.Native.Nat.{ℕ, _+_, _≤_, _<_}
-use Rattle.tip_code.specs.Counts.{join-below, count-below}
+use Rattle.tip_element.specs.Counts.{join-below, count-below}
 use Rattle.tip_code.specs.Geometry.{places-in}
 use Rattle.tip_code.specs.Stripe.{data-cell}
 use Rattle.tip_code.specs.declared.stop.Stop.{Stop}

@@ -2,7 +2,7 @@
 use mathlib.Core.Path.{_≡_}
 use mathlib.Core.Bool.{Bool, true, not, _&&_}
 use mathlib.Core.List.{List}
-use Prim.Native.Nat.{ℕ, _+_, _-_, _*_, _%_, _<_}
+use Prim.Native.Nat.{ℕ, _+_, _-_, _*_, _%_, _<_, _≤_}
 use lib.Dec.{eqb, ltb, leb}
 use lib.ListN.{getD}
 use Rattle.tip_code.specs.declared.chain.Cell.{Cell}
@@ -16,6 +16,13 @@ cell r c = record { row = r; column = c }
 -- Where cell (r, c) stands in a stripe buffer: column after column.
 abbrev pub cell-index : ℕ → ℕ → ℕ → ℕ
 cell-index p r c = c * (p - 1) + r
+
+-- Cell (r, c) of the stripe stands at index i of its buffer.
+pub record Stands (p r c i : ℕ) : Type 0 where
+  pub row : r < p - 1
+  pub column : c ≤ p
+  pub index : i ≡ cell-index p r c
+  pub within : i < (p - 1) * (p + 1)
 
 -- What a stripe buffer holds at row r and column c.
 abbrev pub stripe-of : {E : Type 0} → E → ℕ → List E → ℕ → ℕ → E

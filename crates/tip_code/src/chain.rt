@@ -6,7 +6,7 @@ ghost use lib.Dec.{eqb};
 ghost use Rattle.std.specs.Options.{Cases as BySome};
 ghost use Rattle.tip_code.specs.Geometry.{prime-of};
 ghost use Rattle.tip_code.specs.Primes.{listed};
-ghost use Rattle.tip_code.specs.Stripe.{parity-cell, parity-column, data-cell, line-of, crossing, covers, cell-index, Lines, chains-in, Numbered, Concerned};
+ghost use Rattle.tip_code.specs.Stripe.{parity-cell, parity-column, data-cell, line-of, crossing, covers, cell-index, Stands, Lines, chains-in, Numbered, Concerned};
 ghost use Rattle.tip_code.specs.declared.chain.Direction.the-variants.{Row, Diagonal, Antidiagonal};
 use super::geometry::Geometry;
 use std::fmt;
@@ -142,6 +142,18 @@ fn parity_through(p: usize, cell: Cell, direction: Direction) -> Cell
 }
 
 impl Geometry {
+    /// Where a cell stands in a stripe buffer, or nothing where the stripe has no such cell.
+    pub fn index(self, cell: Cell) -> Option<usize>
+        ensures { λ r. ⌜ BySome r ((cell .row < prime-of self - 1) × (cell .column ≤ prime-of self) → ⊥) (λ i. Stands (prime-of self) (cell .row) (cell .column) i) ⌝ }
+    {
+        let p = self.prime();
+        if cell.row < p - 1 && cell.column <= p {
+            Some(index_of(p, cell.row, cell.column))
+        } else {
+            None
+        }
+    }
+
     /// How many chains a stripe has, 3(p - 1).
     pub fn chains(self) -> usize
         ensures { λ r. ⌜ r ≡ chains-in (prime-of self) ⌝ }

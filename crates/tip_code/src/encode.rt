@@ -14,10 +14,10 @@ ghost use Rattle.tip_code.specs.Stripe.{stripe-of};
 use super::chain::Direction;
 use super::chain::index_of;
 use super::chain::is_data;
-use super::element::Element;
 use super::geometry::Geometry;
 use super::places::place_cell;
 use super::stop::Stop;
+use tip_element::element::Element;
 
 /// Whether buffers of these lengths are those of a stripe's places and cells.
 fn is_sized(geometry: Geometry, values: usize, cells: usize) -> bool

@@ -4,7 +4,7 @@ ghost use mathlib.Core.Bool.{true};
 ghost use Prim.Native.Nat.{ℕ, _+_, _-_, _*_, _<_, _≤_};
 ghost use lib.Dec.{ltb};
 ghost use Rattle.std.specs.Vec.{made};
-ghost use Rattle.tip_code.specs.Counts.{count-below};
+ghost use Rattle.tip_element.specs.Counts.{count-below};
 ghost use Rattle.tip_code.specs.Geometry.{prime-of, places-in};
 ghost use Rattle.tip_code.specs.Places.{Place, Place-stop, Numbering};
 ghost use Rattle.tip_code.specs.Primes.{listed};

@@ -9,13 +9,13 @@ use lib.Bits.{bitXor, xor-zero-r}
 use lib.Dec.{eqb, lit<, lit≤}
 use lib.ListN.{getD}
 use Rattle.std.proofs.shelf.Tests.{and-parts, or-cases, eqb-true}
-use Rattle.tip_code.specs.Counts.{join-below}
+use Rattle.tip_element.specs.Counts.{join-below}
 use Rattle.tip_code.specs.Encoding.{Encoded, Encodes, encoding}
 use Rattle.tip_code.specs.Places.{Place, place-number}
 use Rattle.tip_code.specs.Primes.{listed}
 use Rattle.tip_code.specs.Stripe.{cell, data-cell, Concerned}
-use Rattle.tip_code.specs.Words.{word, no-word, word-join}
-use Rattle.tip_code.specs.declared.word.Word.{Word}
+use Rattle.tip_element.specs.Words.{word, no-word, word-join}
+use Rattle.tip_element.specs.declared.word.Word.{Word}
 use Rattle.tip_code.proofs.Encodings.{one-encoding}
 use Rattle.tip_code.proofs.Numbers.{place-first}
 use Rattle.tip_code.proofs.Sizes.{size-prime, size-stripes, size-none}

@@ -8,10 +8,10 @@ use Rattle.tip_code.specs.Geometry.{Size-stop}
 use Rattle.tip_code.specs.Places.{Place, Place-stop}
 use Rattle.tip_code.specs.Stops.{First}
 use Rattle.tip_code.specs.Stripe.{cell, Concerned}
-use Rattle.tip_code.specs.Words.{word, no-word, word-join}
+use Rattle.tip_element.specs.Words.{word, no-word, word-join}
 use Rattle.tip_code.specs.declared.stop.Stop.{Stop}
 use Rattle.tip_code.specs.declared.stop.Stop.the-variants as stop
-use Rattle.tip_code.specs.declared.word.Word.{Word}
+use Rattle.tip_element.specs.declared.word.Word.{Word}
 
 -- The places hold these numbers, as words.
 abbrev pub holding : List ℕ → ℕ → Word

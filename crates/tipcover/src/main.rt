@@ -1,15 +1,15 @@
 // Shows that encoding follows the rules of the stripe: each place holds its own number, so each parity, a join of traces,
 // holds the places that it covers. The library compares; this prints.
 use std::error::AnyError;
-use tip_code::cover::FindingDisplay;
-use tip_code::cover::inspect;
-use tip_code::cover::own_numbers;
-use tip_code::element::Element;
 use tip_code::encode::encode;
 use tip_code::geometry::Geometry;
 use tip_code::stop::StopError;
-use tip_code::trace::Trace;
-use tip_code::trace::TraceElement;
+use tip_cover::FindingDisplay;
+use tip_cover::inspect;
+use tip_cover::own_numbers;
+use tip_element::element::Element;
+use tip_element::trace::Trace;
+use tip_element::trace::TraceElement;
 
 /// How many parities were compared, and how many of them agreed.
 #[derive(Clone, Copy)]

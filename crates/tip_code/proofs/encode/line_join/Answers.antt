@@ -7,7 +7,8 @@ use Rattle.std.proofs.shelf.Lists.{getD-read}
 use Rattle.tip_code.specs.Encoding.{datum}
 use Rattle.tip_code.specs.Stripe.{data-cell, crossing, stripe-of}
 use Rattle.tip_code.proofs.Cells.{data-facts}
-use Rattle.tip_code.proofs.Joins.{join-more, join-skip, datum-in, datum-out}
+use Rattle.tip_element.proofs.Joins.{join-more, join-skip}
+use Rattle.tip_code.proofs.Data.{datum-in, datum-out}
 use Rattle.tip_code.proofs.encode.line_join.Needs as need
 use Rattle.tip_code.proofs.encode.line_join.Needs.{then-is-data, else-is-data}
 

@@ -1,5 +1,5 @@
 use mathlib.Core.Path.{_≡_}
-use Rattle.tip_code.specs.Counts.{join-below}
+use Rattle.tip_element.specs.Counts.{join-below}
 use Rattle.tip_code.specs.Encoding.{datum}
 use Rattle.tip_code.specs.Stripe.{crossing, stripe-of}
 use Rattle.tip_code.proofs.encode.line_join.Given as given
