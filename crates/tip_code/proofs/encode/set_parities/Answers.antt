@@ -18,4 +18,4 @@ loop-line-again g c =
     let X = stripe-of (m .zero) p (c .args .cells .now) in
     let v = c .line-join-parity .result in
     subst (λ (n : ℕ). Filled (m .zero) (m .join) p d (i + 1) X (stripe-of (m .zero) p (set (c .loop-line .cells) n v))) at
-    (filled-more (m .zero) (m .join) p (c .pre .0) d i X (c .loop-line .cells) v (c .loop-line .kept .cells ∙ c .pre .1) (c .loop-line-test .taken) (c .loop-line .inv) (c .line-join-parity .ensures))
+    (filled-more (m .zero) (m .join) p (c .pre .0) d i X (c .loop-line .cells) v (c .loop-line .kept .cells ∙ c .pre .1) (omega arith) (c .loop-line .inv) (c .line-join-parity .ensures))
