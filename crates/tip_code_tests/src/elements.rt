@@ -2,6 +2,10 @@
 use std::test::*;
 use tip_code::stop::Stop;
 use tip_element::element::Element;
+use tip_element::slices::all_zero;
+use tip_element::slices::clear;
+use tip_element::slices::join_all;
+use tip_element::slices::join_each;
 use tip_element::trace::Trace;
 use tip_element::trace::TraceDebug;
 use tip_element::trace::TraceElement;
@@ -76,6 +80,35 @@ fn zero_elements() -> Result<(), Fail> {
         bit = bit.rotate_left(1);
     }
     check_eq(Word(0b1100).join(Word(0b1010)), Word(0b0110))
+}
+
+/// Beyond the shorter of two runs the elements stay.
+#[test]
+fn runs_are_joined() -> Result<(), Fail> {
+    let others = [Word(1), Word(6), Word(0xf0)];
+    let mut long = [Word(5), Word(6), Word(0xff), Word(9)];
+    let mut short = [Word(5)];
+    check_eq(join_all(&others), Word(0xf7))?;
+    join_each(&mut long, &others);
+    check_eq(long, [Word(4), Word(0), Word(0x0f), Word(9)])?;
+    join_each(&mut short, &others);
+    check_eq(short, [Word(4)])
+}
+
+#[test]
+fn runs_are_cleared() -> Result<(), Fail> {
+    let mut words = [Word(0), Word(0), Word(7)];
+    check(!all_zero(&words))?;
+    clear(&mut words);
+    check(all_zero(&words))?;
+    check_eq(words, [Word(0); 3])
+}
+
+#[test]
+fn empty_runs_are_zero() -> Result<(), Fail> {
+    let none: [Word; 0] = [];
+    check(all_zero(&none))?;
+    check_eq(join_all(&none), Word(0))
 }
 
 #[test]
