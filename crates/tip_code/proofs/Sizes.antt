@@ -7,13 +7,19 @@ use native.Mathlib.Omega.{arith}
 use lib.Dec.{leb}
 use lib.ListN.{length}
 use Rattle.std.proofs.shelf.Tests.{both-ways, and-parts, and-cases, leb-true, leb-false}
-use Rattle.tip_code.specs.Geometry.{prime-of, stripes-of, Valid, Size-stop, no-prime, no-stripe, too-many}
+use Rattle.tip_code.specs.Geometry.{prime-of, stripes-of, Size-stop, no-prime, no-stripe, too-many}
 use Rattle.tip_code.specs.Primes.{primes, listed, Prime-facts}
 use Rattle.tip_code.specs.Stops.{number, First}
 use Rattle.tip_code.specs.declared.geometry.Geometry.{Geometry}
 use Rattle.tip_code.specs.declared.stop.Stop.{Stop}
 use Rattle.tip_code.specs.declared.stop.Stop.the-variants as stop
 use Rattle.tip_code.proofs.Tables.{among-at, prime-facts}
+
+-- what every geometry keeps
+pub record Valid (p n : ℕ) : Type 0 where
+  pub prime : listed p ≡ true
+  pub some : 1 ≤ n
+  pub most : n ≤ 4096
 
 pub valid : (g : Geometry) → Valid (prime-of g) (stripes-of g)
 unfolding prime-of

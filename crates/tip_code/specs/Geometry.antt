@@ -1,6 +1,6 @@
 -- The sizes of an array: its prime and its number of stripes.
 use mathlib.Core.Path.{_≡_}
-use mathlib.Core.Bool.{true, false}
+use mathlib.Core.Bool.{false}
 use Prim.Native.Nat.{ℕ, _+_, _-_, _*_, _≤_, min}
 use lib.ListN.{getD}
 use Rattle.tip_code.specs.Primes.{primes, listed}
@@ -15,12 +15,6 @@ prime-of g = getD primes (min (g .rank) 9) 0
 -- Its number of stripes: at most 4096, and at least one.
 abbrev pub stripes-of : Geometry → ℕ
 stripes-of g = min (g .last) 4095 + 1
-
--- What every geometry keeps.
-pub record Valid (p n : ℕ) : Type 0 where
-  pub prime : listed p ≡ true
-  pub some : 1 ≤ n
-  pub most : n ≤ 4096
 
 -- When sizes p and n are refused: p is not one of the primes; there is no stripe, or too many.
 pub data Size-stop (p n : ℕ) : Stop → Type 0 where

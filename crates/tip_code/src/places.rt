@@ -1,4 +1,5 @@
-// From places to cells. Everything that meets a place goes through `locate`, so only it knows the numbering.
+// Places: the data cells of a stripe by number, from 0 on, row by row, columns ascending. Everything that meets a place goes
+// through the promise of `place_cell`, so the numbering is known here alone.
 ghost use mathlib.Core.Path.{_≡_};
 ghost use mathlib.Core.Bool.{true};
 ghost use Prim.Native.Nat.{ℕ, _+_, _-_, _*_, _<_, _≤_};
