@@ -8,6 +8,7 @@ use tip_code::stop::StopDebug;
 use tip_code::stop::StopDisplay;
 use tip_code::stop::StopPartialEq;
 use tip_cover::FindingDisplay;
+use tip_cover::compare;
 use tip_cover::inspect;
 use tip_cover::own_numbers;
 use tip_element::element::Element;
@@ -31,6 +32,9 @@ fn check_all(geometry: Geometry, cells: &[Trace]) -> Result<(), Fail> {
         let finding = inspect(geometry, cells, number)?.ok_or("no such chain")?;
         check(finding.agrees()).note(number)?;
     }
+    let tally = compare(geometry, cells)?;
+    check_eq(tally.compared, geometry.chains())?;
+    check_eq(tally.agreed, geometry.chains())?;
     check(inspect(geometry, cells, geometry.chains())?.is_none())?;
     check(inspect(geometry, cells, usize::MAX)?.is_none())
 }
@@ -56,6 +60,7 @@ fn a_wrong_parity_is_shown(rt: LibcRuntime) -> Result<(), Fail> {
     }
     let finding = inspect(geometry, &cells, 4)?.ok_or("no such chain")?;
     check(!finding.agrees())?;
+    check_eq(compare(geometry, &cells)?.agreed, 11)?;
     let text = format!(rt.alloc(), "{finding}")?;
     check_eq(
         text.as_str(),
@@ -69,9 +74,19 @@ fn check_refused(heap: Global, p: usize, count: usize, stop: Stop) -> Result<(),
     let stale = Trace::single(127).ok_or("no 127")?;
     let mut values = vec![in heap; stale; count]?;
     check_eq(own_numbers(geometry, &mut values), Err(stop))?;
-    check_eq(values, vec![in heap; stale; count]?)?;
-    let cells = vec![in heap; stale; count]?;
-    match inspect(geometry, &cells, 0) {
+    for value in &values {
+        check_eq(*value, stale)?;
+    }
+    check_not_read(geometry, &values, stop)
+}
+
+/// The same of the calls that read a stripe buffer.
+fn check_not_read(geometry: Geometry, cells: &[Trace], stop: Stop) -> Result<(), Fail> {
+    match compare(geometry, cells) {
+        Ok(_) => return Err(Fail::new("a buffer of another length was compared")),
+        Err(found) => check_eq(found, stop)?,
+    }
+    match inspect(geometry, cells, 0) {
         Ok(_) => Err(Fail::new("a buffer of another length was inspected")),
         Err(found) => check_eq(found, stop),
     }

@@ -1,6 +1,6 @@
 -- Which places a parity covers, as a trace: the check of a stripe in which each place holds its own number.
 use mathlib.Core.Path.{_≡_}
-use mathlib.Core.Bool.{false}
+use mathlib.Core.Bool.{Bool, false}
 use mathlib.Core.List.{List}
 use Prim.Native.Nat.{ℕ, _<_, _≤_}
 use lib.ListN.{getD}
@@ -8,7 +8,8 @@ use Rattle.tip_element.specs.Counts.{count-below}
 use Rattle.tip_code.specs.Encoding.{Encodes}
 use Rattle.tip_code.specs.Geometry.{places-in}
 use Rattle.tip_code.specs.Places.{Place}
-use Rattle.tip_code.specs.Stripe.{covers, parity-column, stripe-of, Numbered}
+use Rattle.tip_code.specs.Stripe.{covers, parity-column, stripe-of, Numbered, chains-in}
+use Rattle.tip_element.specs.Laws.{Exactly}
 use Rattle.tip_element.specs.Traces.{has, members, no-trace, trace-join, Just, Alike}
 use Rattle.tip_code.specs.declared.chain.Direction.{Direction}
 use Rattle.tip_cover.specs.declared.Finding.{Finding}
@@ -33,6 +34,17 @@ pub record Found (p : ℕ) (cells : List Trace) (n : ℕ) (f : Finding) : Type 0
   pub cover : Cover p (f .chain .direction) (f .chain .line) (f .expected) (f .places)
   -- in an encoded stripe whose places hold their own numbers, every parity holds just the places that it covers
   pub encoded : (g : ℕ → Trace) → ((k : ℕ) → k < places-in p → Just k (g k)) → Encodes no-trace trace-join p g (stripe-of no-trace p cells) → Alike (f .found) (f .expected) × (members (f .found) ≡ f .places)
+
+-- The parity of chain n holds just the places that it covers.
+abbrev pub Right : ℕ → List Trace → ℕ → Type 0
+Right p cells n = (d : Direction) (i : ℕ) → Numbered p d i n → (t : Trace) (m : ℕ) → Cover p d i t m → Alike (stripe-of no-trace p cells i (parity-column p d i)) t
+
+-- A comparison of all chains: how many there are, and how many are right. Where the stripe is encoded and its places hold
+-- their own numbers, all are.
+pub record Compared (p : ℕ) (cells : List Trace) (compared agreed : ℕ) : Type 0 where
+  pub all : compared ≡ chains-in p
+  pub right : (f : ℕ → Bool) → ((n : ℕ) → n < chains-in p → Exactly (f n) (Right p cells n)) → agreed ≡ count-below (chains-in p) f
+  pub encoded : (g : ℕ → Trace) → ((n : ℕ) → n < places-in p → Just n (g n)) → Encodes no-trace trace-join p g (stripe-of no-trace p cells) → agreed ≡ compared
 
 -- When traces of places are refused: some number of a place is past 127, or the buffer has another length.
 pub data Cover-stop (p length needed : ℕ) : Stop → Type 0 where

@@ -10,8 +10,8 @@ ghost use Rattle.std.specs.Vec.{made};
 ghost use Rattle.tip_code.specs.Geometry.{prime-of, cells-in, places-in};
 ghost use Rattle.tip_code.specs.Places.{Place};
 ghost use Rattle.tip_code.specs.Stops.{Stopped};
-ghost use Rattle.tip_code.specs.Stripe.{covers, stripe-of, parity-column, chains-in};
-ghost use Rattle.tip_cover.specs.Cover.{Cover, Own, Found, Cover-stop};
+ghost use Rattle.tip_code.specs.Stripe.{covers, stripe-of, parity-column, chains-in, Numbered};
+ghost use Rattle.tip_cover.specs.Cover.{Cover, Own, Found, Right, Compared, Cover-stop};
 ghost use Rattle.tip_element.specs.Laws.{Exactly};
 ghost use Rattle.tip_element.specs.Traces.{members, no-trace, Just, Alike};
 use std::fmt;
@@ -40,6 +40,13 @@ pub struct Finding {
     pub expected: Trace,
     /// How many places that is.
     pub places: u32,
+}
+
+/// How many parities were compared, and how many of them hold what they should.
+#[derive(Clone, Copy)]
+pub struct Tally {
+    pub compared: usize,
+    pub agreed: usize,
 }
 
 impl Finding {
@@ -137,6 +144,23 @@ pub fn own_numbers(geometry: Geometry, values: &mut [Trace]) -> Result<(), Stop>
     Ok(())
 }
 
+/// What the parity of a chain that the stripe has holds, and what it should.
+fn find(geometry: Geometry, cells: &[Trace], chain: Chain) -> Finding
+    requires few { ⌜ prime-of geometry ≤ 11 ⌝ }
+    requires line { ⌜ chain .line < prime-of geometry - 1 ⌝ }
+    requires long { ⌜ length (now cells) ≡ cells-in (prime-of geometry) ⌝ }
+    ensures { λ f. ⌜ ((n : ℕ) → Numbered (prime-of geometry) (chain .direction) (chain .line) n → Found (prime-of geometry) (now (cells .entry)) n f) ⌝ }
+{
+    let found = parity_in(geometry, cells, chain);
+    let (expected, places) = covered(geometry, chain);
+    Finding {
+        chain,
+        found,
+        expected,
+        places,
+    }
+}
+
 /// Looks at one chain of a stripe in which each place holds its own number: what its parity holds, and what it should.
 /// There is nothing to find where the stripe has no chain of this number. Stop 1: p is above 11. Stop 3: `cells` is not a
 /// stripe buffer by its length.
@@ -153,12 +177,40 @@ pub fn inspect(geometry: Geometry, cells: &[Trace], number: usize) -> Result<Opt
     let Some(chain) = geometry.chain(number) else {
         return Ok(None);
     };
-    let found = parity_in(geometry, cells, chain);
-    let (expected, places) = covered(geometry, chain);
-    Ok(Some(Finding {
-        chain,
-        found,
-        expected,
-        places,
-    }))
+    Ok(Some(find(geometry, cells, chain)))
+}
+
+/// Whether the parity of a chain that the stripe has holds just the places that it covers.
+fn is_right(geometry: Geometry, cells: &[Trace], number: usize) -> bool
+    requires few { ⌜ prime-of geometry ≤ 11 ⌝ }
+    requires long { ⌜ length (now cells) ≡ cells-in (prime-of geometry) ⌝ }
+    requires there { ⌜ number < chains-in (prime-of geometry) ⌝ }
+    ensures { λ r. ⌜ Exactly r (Right (prime-of geometry) (now (cells .entry)) number) ⌝ }
+{
+    match geometry.chain(number) {
+        Some(chain) => find(geometry, cells, chain).agrees(),
+        None => unreachable(),
+    }
+}
+
+/// Compares every parity of a stripe in which each place holds its own number with the places that it covers.
+/// Stop 1: p is above 11. Stop 3: `cells` is not a stripe buffer by its length.
+pub fn compare(geometry: Geometry, cells: &[Trace]) -> Result<Tally, Stop>
+    ensures stop { λ r. ⌜ Stopped (Cover-stop (prime-of geometry) (length (now (cells .entry))) (cells-in (prime-of geometry))) r ⌝ }
+    ensures value { λ r. ⌜ made r (λ t. Compared (prime-of geometry) (now (cells .entry)) (t .compared) (t .agreed)) ⌝ }
+{
+    if !is_traced(geometry) {
+        return Err(Stop::Prime);
+    }
+    if cells.len() != geometry.cells() {
+        return Err(Stop::Length);
+    }
+    let compared = geometry.chains();
+    let mut agreed = 0;
+    for number in 0..compared {
+        if is_right(geometry, cells, number) {
+            agreed += 1;
+        }
+    }
+    Ok(Tally { compared, agreed })
 }

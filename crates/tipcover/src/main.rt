@@ -5,18 +5,13 @@ use tip_code::encode::encode;
 use tip_code::geometry::Geometry;
 use tip_code::stop::StopError;
 use tip_cover::FindingDisplay;
+use tip_cover::Tally;
+use tip_cover::compare;
 use tip_cover::inspect;
 use tip_cover::own_numbers;
 use tip_element::element::Element;
 use tip_element::trace::Trace;
 use tip_element::trace::TraceElement;
-
-/// How many parities were compared, and how many of them agreed.
-#[derive(Clone, Copy)]
-struct Tally {
-    compared: usize,
-    agreed: usize,
-}
 
 /// Encodes a stripe of own numbers.
 fn encoded(rt: &LibcRuntime, geometry: Geometry) -> Result<Vec<Trace>, AnyError> {
@@ -28,30 +23,32 @@ fn encoded(rt: &LibcRuntime, geometry: Geometry) -> Result<Vec<Trace>, AnyError>
     Ok(cells)
 }
 
-/// Compares every parity of one stripe, prints those that disagree and then a line for the stripe.
-fn compare(rt: &LibcRuntime, p: usize) -> Result<Tally, AnyError> {
+/// Prints each parity that does not hold what it should: what was found, and what was expected.
+fn show_wrong(rt: &LibcRuntime, geometry: Geometry, cells: &[Trace]) -> Result<(), AnyError> {
+    let p = geometry.prime();
+    for number in 0..geometry.chains() {
+        if let Some(finding) = inspect(geometry, cells, number)? {
+            if !finding.agrees() {
+                println!(rt, "p = {p}: {finding}")?;
+            }
+        }
+    }
+    Ok(())
+}
+
+/// Compares every parity of one stripe, and prints what came of it.
+fn show(rt: &LibcRuntime, p: usize) -> Result<Tally, AnyError> {
     let geometry = Geometry::new(p, 1)?;
     let cells = encoded(rt, geometry)?;
-    let mut tally = Tally {
-        compared: 0,
-        agreed: 0,
-    };
-    for number in 0..geometry.chains() {
-        let Some(finding) = inspect(geometry, &cells, number)? else {
-            return Err("a chain is missing".into());
-        };
-        tally.compared = tally.compared.saturating_add(1);
-        if finding.agrees() {
-            tally.agreed = tally.agreed.saturating_add(1);
-        } else {
-            println!(rt, "p = {p}: {finding}")?;
-        }
+    let tally = compare(geometry, &cells)?;
+    let Tally { compared, agreed } = tally;
+    if agreed != compared {
+        show_wrong(rt, geometry, &cells)?;
     }
     let places = geometry.places();
     println!(
         rt,
-        "p = {p}: {places} places, {} parities compared, {} agree",
-        tally.compared, tally.agreed
+        "p = {p}: {places} places, {compared} parities compared, {agreed} agree"
     )?;
     Ok(tally)
 }
@@ -61,7 +58,7 @@ fn run(rt: &LibcRuntime) -> Result<(), AnyError> {
     let mut compared: usize = 0;
     let mut agreed: usize = 0;
     for p in [3, 5, 7, 11] {
-        let tally = compare(rt, p)?;
+        let tally = show(rt, p)?;
         compared = compared.saturating_add(tally.compared);
         agreed = agreed.saturating_add(tally.agreed);
     }
