@@ -19,8 +19,8 @@ digit_xor (suc zero) (suc (suc b)) h k = absurd (omega arith)
 digit_xor (suc (suc a)) b h k = absurd (omega arith)
 
 -- A bit of an exclusive or is set where just one of the two bits is.
-pub bit_xor : (x y n : ℕ) → bit (bit_xor x y) n ≡ one_of (bit x n) (bit y n)
-bit_xor x y n =
+pub bit_of_xor : (x y n : ℕ) → bit (bit_xor x y) n ≡ one_of (bit x n) (bit y n)
+bit_of_xor x y n =
     let a = x / 2 ^ n in
     let b = y / 2 ^ n in
     ap (λ z. eqb (z % 2) 1) (xor_shr x y n) ∙ ap (λ z. eqb z 1) (xor_mod a b 1)

@@ -1,11 +1,11 @@
 -- Traces as sets: members of joins, counts of members, and sets with the same members.
-use Rattle.std.proofs.Common.{◌≡◌, ℕ, ◌+◌, ◌-◌, ◌^◌, ◌<◌, ◌≤◌, Bool, true, false, cond, not, ltb, sym, refl, ap, ◌∙◌, ap₂, add-one, arith}
+use Rattle.std.proofs.Common.{◌≡◌, ℕ, ◌+◌, ◌-◌, ◌^◌, ◌<◌, Bool, true, false, not, ltb, sym, ap, ◌∙◌, ap₂, add-one, arith}
 use Rattle.std.proofs.lemmas.Bool.{cond_both}
 use Rattle.std.proofs.lemmas.Bool.Decides.{nat_tests}
 use Rattle.tip_element.specs.Counts.{count_below}
 use Rattle.tip_element.specs.Traces.{bit, has, one_of, no_trace, trace_join, Alike}
 use Rattle.tip_element.specs.declared.trace.Trace.{Trace}
-use Rattle.tip_element.proofs.Bits.{bit_xor, bit_zero, bits_same}
+use Rattle.tip_element.proofs.Bits.{bit_of_xor, bit_zero, bits_same}
 
 -- one number more is counted, or not
 pub count_on : (m : ℕ) (f : ℕ → Bool) → f m ≡ true → count_below (m + 1) f ≡ count_below m f + 1
@@ -16,7 +16,7 @@ count_off m f e = rw (add-one, e)
 
 -- a number is in a join where it is in just one of the two sets, whichever word has its bit
 pub has_join : (x y : Trace) (n : ℕ) → has (trace_join x y) n ≡ one_of (has x n) (has y n)
-has_join x y n = grind (arith, bit_xor x.low y.low n, bit_xor x.high y.high (n - 64))
+has_join x y n = grind (arith, bit_of_xor x.low y.low n, bit_of_xor x.high y.high (n - 64))
 
 -- joining a set with one that lacks the number, and joining a number that is new
 pub one_of_same : (a b : Bool) → b ≡ false → one_of a b ≡ a

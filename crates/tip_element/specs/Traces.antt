@@ -1,5 +1,5 @@
 -- Traces: sets of numbers from 0 to 127, kept as the bits of two 64-bit words.
-use Rattle.std.specs.Prelude.{◌≡◌, ℕ, ◌-◌, ◌/◌, ◌%◌, ◌^◌, Bool, true, false, cond, not, ◌==◌, bit_xor, nat_lt, refl}
+use Rattle.std.specs.Prelude.{◌≡◌, ℕ, ◌-◌, ◌/◌, ◌%◌, ◌^◌, Bool, cond, not, ◌==◌, bit_xor, nat_lt, refl}
 use Rattle.std.specs.Int.Bits.{xor_assoc, xor_self}
 use Rattle.std.proofs.lemmas.Nat.{xor_comm}
 use Rattle.tip_element.specs.Counts.{count_below}

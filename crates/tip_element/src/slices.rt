@@ -8,7 +8,7 @@ use super::element::Element;
 
 /// The join of all elements; zero where there is none.
 pub fn join_all<E: Element>(elements: &[E]) -> E
-    ensures { result ≡ join_below zero join (length elements.now) (λ i. slice_index_or elements.now i zero) }
+    ensures { result ≡ join_below E.zero E.join (length elements.now) (λ i. slice_index_or elements.now i E.zero) }
 {
     let mut all = E::zero();
     for element in elements {
@@ -19,7 +19,7 @@ pub fn join_all<E: Element>(elements: &[E]) -> E
 
 /// Joins each of the others into the element at its index. Where one run is longer, what is beyond the shorter stays.
 pub fn join_each<E: Element>(elements: &mut [E], others: &[E])
-    ensures { Joined zero join elements.old others.now elements.new }
+    ensures { Joined E.zero E.join elements.old others.now elements.new }
 {
     for i in 0..elements.len().min(others.len()) {
         elements[i] = elements[i].join(others[i]);
@@ -28,7 +28,7 @@ pub fn join_each<E: Element>(elements: &mut [E], others: &[E])
 
 /// Whether every element is zero, exactly.
 pub fn all_zero<E: Element>(elements: &[E]) -> bool
-    ensures { Exactly result (AllZero zero elements.now) }
+    ensures { Exactly result (AllZero E.zero elements.now) }
 {
     for element in elements {
         if !element.is_zero() {
@@ -40,7 +40,7 @@ pub fn all_zero<E: Element>(elements: &[E]) -> bool
 
 /// Makes every element zero.
 pub fn clear<E: Element>(elements: &mut [E])
-    ensures { AllZero zero elements.new }
+    ensures { AllZero E.zero elements.new }
 {
     for i in 0..elements.len() {
         elements[i] = E::zero();

@@ -7,26 +7,26 @@ use Rattle.tip_cover.specs.Cover.{Compared}
 use Rattle.tip_cover.proofs.Comparing.{Counted, counted_on, counted_off, compared_all}
 use Rattle.tip_cover.proofs.Covering.{cover_prime, cover_length, cover_none}
 use Rattle.tip_cover.proofs.compare.Goals as goal
-use Rattle.tip_cover.proofs.compare.Goals.{then-is-right, else-is-right}
+use Rattle.tip_cover.proofs.compare.Goals.{then-is_right, else-is_right}
 
-pub returns-then-not-is-traced : goal.returns-then-not-is-traced
-returns-then-not-is-traced c =
+pub returns-then-not-is_traced : goal.returns-then-not-is_traced
+returns-then-not-is_traced c =
     let p = prime_of c.args.geometry in
-    record { stop = cover_prime p (length c.args.cells.now) (cells_in p) (sym c.is-traced.ensures ∙ c.if-not-is-traced.true); value = tt }
+    record { stop = cover_prime p (length c.args.cells.now) (cells_in p) (sym c.is_traced.ensures ∙ c.if-not-is_traced.true); value = tt }
 
 pub returns-then-cells : goal.returns-then-cells
 returns-then-cells c =
     let p = prime_of c.args.geometry in
     record {
-      stop = cover_length p (length c.args.cells.now) (cells_in p) (sym c.is-traced.ensures ∙ c.if-not-is-traced.false) (λ e. c.if-cells.true (e ∙ sym c.cells.ensures));
+      stop = cover_length p (length c.args.cells.now) (cells_in p) (sym c.is_traced.ensures ∙ c.if-not-is_traced.false) (λ e. c.if-cells.true (e ∙ sym c.cells.ensures));
       value = tt;
     }
 
-pub is-right-requires : goal.is-right-requires
-is-right-requires c =
+pub is_right-requires : goal.is_right-requires
+is_right-requires c =
     let p = prime_of c.args.geometry in
     record {
-      few = leb-true p 11 (sym c.is-traced.ensures ∙ c.if-not-is-traced.false);
+      few = leb-true p 11 (sym c.is_traced.ensures ∙ c.if-not-is_traced.false);
       long = c.if-cells.false ∙ c.cells.ensures;
       there = omega (arith, c.chains-compared.ensures);
     }
@@ -38,11 +38,11 @@ loop-number-preserved c =
     let m = c.loop-number.number in
     let low : m < chains_in p = omega (arith, c.chains-compared.ensures) in
     let Goal = λ (n : ℕ). Counted p xs (m + 1) n in
-    elim c.if-is-right.branch [
-      | then-is-right w ↦
-          subst Goal (sym w.agreed-is) (counted_on p xs m c.loop-number.agreed c.is-right.result w.if-is-right.true low c.is-right.ensures c.loop-number.invariant)
-      | else-is-right w ↦
-          subst Goal (sym w.agreed-is) (counted_off p xs m c.loop-number.agreed c.is-right.result w.if-is-right.false low c.is-right.ensures c.loop-number.invariant)
+    elim c.if-is_right.branch [
+      | then-is_right w ↦
+          subst Goal (sym w.agreed-is) (counted_on p xs m c.loop-number.agreed c.is_right.result w.if-is_right.true low c.is_right.ensures c.loop-number.invariant)
+      | else-is_right w ↦
+          subst Goal (sym w.agreed-is) (counted_off p xs m c.loop-number.agreed c.is_right.result w.if-is_right.false low c.is_right.ensures c.loop-number.invariant)
     ]
 
 pub returns : goal.returns
@@ -52,6 +52,6 @@ returns c =
     let n = c.loop-number.agreed in
     let whole : c.loop-number.number ≡ chains_in p = omega (arith, c.chains-compared.ensures) in
     record {
-      stop = cover_none p (length xs) (cells_in p) (sym c.is-traced.ensures ∙ c.if-not-is-traced.false) (c.if-cells.false ∙ c.cells.ensures);
+      stop = cover_none p (length xs) (cells_in p) (sym c.is_traced.ensures ∙ c.if-not-is_traced.false) (c.if-cells.false ∙ c.cells.ensures);
       value = subst (λ (m : ℕ). Compared p xs m n) (sym c.chains-compared.ensures) (compared_all p (valid c.args.geometry).prime xs n (subst (λ (m : ℕ). Counted p xs m n) whole c.loop-number.invariant));
     }

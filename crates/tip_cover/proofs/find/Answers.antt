@@ -9,7 +9,7 @@ pub returns : goal.returns
 returns c n at =
     let p = prime_of c.args.geometry in
     let chain = c.args.chain in
-    let found = c.parity-in-found.ensures in
+    let found = c.parity_in-found.ensures in
     let cover = c.covered-places.ensures in
     record {
       chain = at;

@@ -5,7 +5,7 @@ use Rattle.tip_code.proofs.chain.is_data.Goals.{else-row-p-via-then-row-p+else-c
 
 pub returns-then-column-p : goal.returns-then-column-p
 returns-then-column-p c =
-    c.off-parity.ensures ∙ sym (data_last c.args.p c.args.row c.args.column c.if-row-p.true c.if-column-p.true)
+    c.off_parity.ensures ∙ sym (data_last c.args.p c.args.row c.args.column c.if-row-p.true c.if-column-p.true)
 
 pub returns-else-row-p : goal.returns-else-row-p
 returns-else-row-p c = sym (data_not c.args.p c.args.row c.args.column (λ d.

@@ -5,18 +5,18 @@ use Rattle.tip_code.proofs.Cells.{data_facts}
 use Rattle.tip_code.proofs.Tables.{prime_facts}
 use Rattle.tip_code.proofs.chain.on_line.Goals as goal
 
-pub line-of-requires : goal.line-of-requires
-line-of-requires c =
+pub line_of-requires : goal.line_of-requires
+line_of-requires c =
     let p = c.args.p in
-    let f = data_facts p c.args.cell.row c.args.cell.column (sym c.if-is-data.ensures) in
+    let f = data_facts p c.args.cell.row c.args.cell.column (sym c.if-is_data.ensures) in
     let h = prime_facts p c.requires in
     (h.low, h.high, f.row, f.column)
 
-pub returns-then-is-data : goal.returns-then-is-data
-returns-then-is-data c =
+pub returns-then-is_data : goal.returns-then-is_data
+returns-then-is_data c =
     let test = eqb (line_of c.args.p c.args.chain.direction c.args.cell.row c.args.cell.column) c.args.chain.line in
-    ap (λ n. eqb n c.args.chain.line) c.line-of.ensures ∙ ap (λ b. b && test) c.if-is-data.ensures
+    ap (λ n. eqb n c.args.chain.line) c.line_of.ensures ∙ ap (λ b. b && test) c.if-is_data.ensures
 
-pub returns-else-is-data : goal.returns-else-is-data
-returns-else-is-data c =
-    c.if-is-data.false ∙ sym (and_left (data_cell c.args.p c.args.cell.row c.args.cell.column) _ (sym c.if-is-data.ensures))
+pub returns-else-is_data : goal.returns-else-is_data
+returns-else-is_data c =
+    c.if-is_data.false ∙ sym (and_left (data_cell c.args.p c.args.cell.row c.args.cell.column) _ (sym c.if-is_data.ensures))

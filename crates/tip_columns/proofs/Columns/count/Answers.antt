@@ -5,4 +5,4 @@ use Rattle.tip_columns.proofs.Columns.count.Goals as goal
 
 pub returns : goal.returns
 unfolding size
-returns c = c.ones-of.ensures ∙ ones_bits 64 c.args.self.0 (omega arith)
+returns c = c.ones_of.ensures ∙ ones_bits 64 c.args.self.0 (omega arith)

@@ -5,6 +5,6 @@ use Rattle.tip_solve.proofs.buffer.column_start.Goals as goal
 pub returns : goal.returns
 returns c =
     record {
-      value = c.cells-before.ensures;
-      within = omega (arith, c.cells-before.ensures, index_within c.args.p (c.args.p - 2) c.args.column (omega arith) c.requires.2);
+      value = c.cells_before.ensures;
+      within = omega (arith, c.cells_before.ensures, index_within c.args.p (c.args.p - 2) c.args.column (omega arith) c.requires.2);
     }

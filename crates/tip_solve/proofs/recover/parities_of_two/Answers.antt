@@ -14,7 +14,7 @@ returns g c X r e x known =
     let some : 0 < p = omega (arith, c.requires.0.low) in
     let E = folded m.zero m.join p X in
     let sums = two_folded m.laws p c.requires.0 X x f h c.requires.1 c.requires.2 c.args.diagonals.now c.args.antidiagonals.now r e known c.mirror.new.folded c.mirror-2.new.folded c.mirror.ensures c.mirror-2.ensures in
-    let held = c.find-pair.ensures (E f) (E h) sums in
-    let long-x : length c.find-pair.new.x ≡ p = c.find-pair.auto.x ∙ c.three-runs-x.ensures.first in
-    let long-y : length c.find-pair.new.y ≡ p = c.find-pair.auto.y ∙ c.three-runs-x.ensures.second in
-    (get_or_read c.find-pair.new.x (p - 1) c.index-x-p.result (omega arith) c.index-x-p.is m.zero ∙ held.0 (p - 1) (omega arith) ∙ folded_last m.laws p X f some, get_or_read c.find-pair.new.y (p - 1) c.index-y-p.result (omega arith) c.index-y-p.is m.zero ∙ held.1 (p - 1) (omega arith) ∙ folded_last m.laws p X h some)
+    let held = c.find_pair.ensures (E f) (E h) sums in
+    let long-x : length c.find_pair.new.x ≡ p = c.find_pair.auto.x ∙ c.three_runs-x.ensures.first in
+    let long-y : length c.find_pair.new.y ≡ p = c.find_pair.auto.y ∙ c.three_runs-x.ensures.second in
+    (get_or_read c.find_pair.new.x (p - 1) c.index-x-p.result (omega arith) c.index-x-p.is m.zero ∙ held.0 (p - 1) (omega arith) ∙ folded_last m.laws p X f some, get_or_read c.find_pair.new.y (p - 1) c.index-y-p.result (omega arith) c.index-y-p.is m.zero ∙ held.1 (p - 1) (omega arith) ∙ folded_last m.laws p X h some)

@@ -17,6 +17,6 @@ returns g c =
     let s = c.requires.1 in
     let lost = in_set c.args.lost in
     let X = stripe_of m.zero p in
-    solved m.zero m.join p lost f j h (X c.args.cells.now) (X c.write-lost.new.cells) (X c.write-lost-2.new.cells) (X c.write-lost-3.new.cells) c.cells-of-three.new.x c.cells-of-three.new.m c.cells-of-three.new.y (λ e. omega (arith, s.ordered)) (λ e. omega (arith, s.ordered, s.ascending)) (λ e. omega (arith, s.ascending)) (omega (arith, s.ordered, s.ascending, s.below)) (omega (arith, s.ascending, s.below)) c.write-lost.ensures.elsewhere c.write-lost-2.ensures.elsewhere c.write-lost-3.ensures.elsewhere c.write-lost.ensures.here c.write-lost-2.ensures.here c.write-lost-3.ensures.here
+    solved m.zero m.join p lost f j h (X c.args.cells.now) (X c.write_lost.new.cells) (X c.write_lost-2.new.cells) (X c.write_lost-3.new.cells) c.cells_of_three.new.x c.cells_of_three.new.m c.cells_of_three.new.y (λ e. omega (arith, s.ordered)) (λ e. omega (arith, s.ordered, s.ascending)) (λ e. omega (arith, s.ascending)) (omega (arith, s.ordered, s.ascending, s.below)) (omega (arith, s.ascending, s.below)) c.write_lost.ensures.elsewhere c.write_lost-2.ensures.elsewhere c.write_lost-3.ensures.elsewhere c.write_lost.ensures.here c.write_lost-2.ensures.here c.write_lost-3.ensures.here
     (λ k l q. ⊎_elim (λ (e : k ≡ p). absurd (both_ways (lost p) s.rows (ap lost (sym e) ∙ q))) (λ (e : k ≡ p → ⊥). one_of_three k f j h (s.all k (omega arith) q)) (cases_eq k p))
-    (λ W enc agree. c.cells-of-three.ensures W enc (λ k l off i b. agree i k b (omega arith) (sought_all p lost (sought (Three c.args.at)) s.all k l off)) (λ i b. agree i p b (omega arith) s.rows))
+    (λ W enc agree. c.cells_of_three.ensures W enc (λ k l off i b. agree i k b (omega arith) (sought_all p lost (sought (Three c.args.at)) s.all k l off)) (λ i b. agree i p b (omega arith) s.rows))

@@ -16,6 +16,6 @@ returns g c =
     let s = c.requires.1 in
     let lost = in_set c.args.lost in
     let X = stripe_of m.zero p in
-    solved m.zero m.join p lost f h p (X c.args.cells.now) (X c.write-lost.new.cells) (X c.write-lost-2.new.cells) (X c.write-lost-3.new.cells) c.cells-of-two.new.x c.cells-of-two.new.y c.cells-of-two.new.rows (λ e. omega (arith, s.ordered)) (λ e. omega (arith, s.ordered, s.below)) (λ e. omega (arith, s.below)) (omega (arith, s.ordered, s.below)) (omega (arith, s.below)) c.write-lost.ensures.elsewhere c.write-lost-2.ensures.elsewhere c.write-lost-3.ensures.elsewhere c.write-lost.ensures.here c.write-lost-2.ensures.here c.write-lost-3.ensures.here
+    solved m.zero m.join p lost f h p (X c.args.cells.now) (X c.write_lost.new.cells) (X c.write_lost-2.new.cells) (X c.write_lost-3.new.cells) c.cells_of_two.new.x c.cells_of_two.new.y c.cells_of_two.new.rows (λ e. omega (arith, s.ordered)) (λ e. omega (arith, s.ordered, s.below)) (λ e. omega (arith, s.below)) (omega (arith, s.ordered, s.below)) (omega (arith, s.below)) c.write_lost.ensures.elsewhere c.write_lost-2.ensures.elsewhere c.write_lost-3.ensures.elsewhere c.write_lost.ensures.here c.write_lost-2.ensures.here c.write_lost-3.ensures.here
     (λ k l q. ⊎_elim (λ (e : k ≡ p). inr (inr e)) (λ (e : k ≡ p → ⊥). ⊎_elim inl (λ u. inr (inl u)) (one_of_two k f h (s.all k (omega arith) q))) (cases_eq k p))
-    (λ W enc agree. c.cells-of-two.ensures W enc (λ k l off i b. agree i k b (omega arith) (sought_all p lost (sought (Two f h)) s.all k l off)))
+    (λ W enc agree. c.cells_of_two.ensures W enc (λ k l off i b. agree i k b (omega arith) (sought_all p lost (sought (Two f h)) s.all k l off)))

@@ -8,8 +8,8 @@ pub returns : goal.returns
 returns c =
     let e = c.prime.ensures.value in
     let t = c.within-within in
-    let s = c.first-stop.ensures in
-    fitted (prime_of c.args.geometry) c.args.cells c.args.room c.args.least c.args.lost _ _ t.result c.first-stop.result s.length s.work s.column s.none
+    let s = c.first_stop.ensures in
+    fitted (prime_of c.args.geometry) c.args.cells c.args.room c.args.least c.args.lost _ _ t.result c.first_stop.result s.length s.work s.column s.none
     (λ q. eqb-true _ _ q ∙ c.cells.ensures) (λ q k. eqb-false _ _ q (k ∙ sym c.cells.ensures))
     (leb-true _ _) (leb-false _ _)
     (λ q k on. subst (λ (n : ℕ). k ≤ n) e (t.ensures.sound q k on))

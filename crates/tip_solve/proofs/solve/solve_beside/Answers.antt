@@ -8,21 +8,21 @@ use Rattle.tip_solve.specs.Solving.{room_in, SolveStop, Fitting, Solved}
 use Rattle.tip_solve.proofs.Stopping.{stops_lost, stops_none}
 use Rattle.tip_solve.proofs.solve.solve_beside.Goals as goal
 
-pub returns-in-err-fitting : goal.returns-in-err-fitting
-returns-in-err-fitting g c =
-    let q = err_from_is_err_and c.from-residual.result c.from-residual.ensures.1 in
+pub returns-in_err-fitting : goal.returns-in_err-fitting
+returns-in_err-fitting g c =
+    let q = err_from_is_err_and c.from_residual.result c.from_residual.ensures.1 in
     rw (q.1, q.2) (record {
-      stop = subst (λ (n : ℕ). First (SolveStop (prime_of c.args.geometry) (length c.args.cells.now) (length c.args.room.now) n c.args.lost) c.in-err-fitting.field-0.0) c.room-len.ensures c.in-err-fitting.ensures.0;
+      stop = subst (λ (n : ℕ). First (SolveStop (prime_of c.args.geometry) (length c.args.cells.now) (length c.args.room.now) n c.args.lost) c.in_err-fitting.field-0.0) c.room_len.ensures c.in_err-fitting.ensures.0;
       cells = refl;
     })
 
-pub returns-then-not-is-few : goal.returns-then-not-is-few
-returns-then-not-is-few g c =
+pub returns-then-not-is_few : goal.returns-then-not-is_few
+returns-then-not-is_few g c =
     let p = prime_of c.args.geometry in
     let cells = length c.args.cells.now in
     let room = length c.args.room.now in
     record {
-      stop = stops_lost p cells room (room_in p) c.args.lost (subst (λ (n : ℕ). Fitting p cells room n c.args.lost) c.room-len.ensures c.in-ok-fitting.ensures) (c.is-few.ensures.many c.if-not-is-few.true);
+      stop = stops_lost p cells room (room_in p) c.args.lost (subst (λ (n : ℕ). Fitting p cells room n c.args.lost) c.room_len.ensures c.in_ok-fitting.ensures) (c.is_few.ensures.many c.if-not-is_few.true);
       cells = refl;
     }
 
@@ -33,6 +33,6 @@ returns g c =
     let cells = length c.args.cells.now in
     let room = length c.args.room.now in
     record {
-      stop = stops_none p cells room (room_in p) c.args.lost (subst (λ (n : ℕ). Fitting p cells room n c.args.lost) c.room-len.ensures c.in-ok-fitting.ensures) (c.is-few.ensures.few c.if-not-is-few.false);
+      stop = stops_none p cells room (room_in p) c.args.lost (subst (λ (n : ℕ). Fitting p cells room n c.args.lost) c.room_len.ensures c.in_ok-fitting.ensures) (c.is_few.ensures.few c.if-not-is_few.false);
       cells = subst (λ (q : ℕ). Solved m.zero m.join q (in_set c.args.lost) (stripe_of m.zero q c.args.cells.now) (stripe_of m.zero q c.recover.new.cells)) c.prime.ensures.value c.recover.ensures;
     }

@@ -18,14 +18,14 @@ returns g c X M Y s =
     let m₀ = c.divide-2.new.quotient in
     let wide : length w₀ ≡ p = c.divide.auto.quotient ∙ c.requires.sized.4 in
     let long : length m₀ ≡ p = c.divide-2.auto.quotient ∙ c.requires.sized.5 in
-    middle_found e.laws p f j h c.requires.0.1 c.requires.0.2 c.requires.0.3 r d a X M Y s c.requires.0.0 c.join-turned-3.new.sum w₀ c.join-onto.new.elements m₀ c.join-onto-2.new.elements c.join-all-all.result c.index-m-p.result
-    (λ i low. c.join-turned-3.ensures i low
-    ∙ ap (λ x. e.join x (get_or a ((i + (p - h)) % p) e.zero)) (c.join-turned-2.ensures i low
-    ∙ ap (λ x. e.join x (get_or d ((i + f) % p) e.zero)) (c.join-turned.ensures i low
-    ∙ ap (λ xs. e.join (get_or xs i e.zero) (get_or r ((i + (p + f - h)) % p) e.zero)) c.copy-from-slice.ensures.after)))
+    middle_found e.laws p f j h c.requires.0.1 c.requires.0.2 c.requires.0.3 r d a X M Y s c.requires.0.0 c.join_turned-3.new.sum w₀ c.join_onto.new.elements m₀ c.join_onto-2.new.elements c.join_all-all.result c.index-m-p.result
+    (λ i low. c.join_turned-3.ensures i low
+    ∙ ap (λ x. e.join x (get_or a ((i + (p - h)) % p) e.zero)) (c.join_turned-2.ensures i low
+    ∙ ap (λ x. e.join x (get_or d ((i + f) % p) e.zero)) (c.join_turned.ensures i low
+    ∙ ap (λ xs. e.join (get_or xs i e.zero) (get_or r ((i + (p + f - h)) % p) e.zero)) c.copy_from_slice.ensures.after)))
     c.divide.ensures
-    (c.join-all-all.ensures ∙ ap (λ n. join_below e.zero e.join n (λ i. get_or w₀ i e.zero)) wide)
-    (λ i low. c.join-onto.ensures i (omega arith))
+    (c.join_all-all.ensures ∙ ap (λ n. join_below e.zero e.join n (λ i. get_or w₀ i e.zero)) wide)
+    (λ i low. c.join_onto.ensures i (omega arith))
     c.divide-2.ensures
     (get_or_read m₀ (p - 1 - j) c.index-m-p.result (omega (arith, c.requires.0.2, c.requires.0.3)) c.index-m-p.is e.zero)
-    (λ i low. c.join-onto-2.ensures i (omega arith))
+    (λ i low. c.join_onto-2.ensures i (omega arith))

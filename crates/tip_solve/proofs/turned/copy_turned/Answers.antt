@@ -6,4 +6,4 @@ pub returns : goal.returns
 returns g c i h =
     let p = c.args.p in
     let start = c.wrapped-start.result in
-    copied g.E.Element.zero p c.args.turn start c.wrapped-start.ensures.value c.wrapped-start.ensures.within c.args.column.now c.requires.3 (p - start) (start - 0) _ c.copy-from-slice.new.self _ c.copy-from-slice-2.new.self (omega arith) (omega arith) c.copy-from-slice.ensures.after c.copy-from-slice-2.ensures.after i h
+    copied g.E.Element.zero p c.args.turn start c.wrapped-start.ensures.value c.wrapped-start.ensures.within c.args.column.now c.requires.3 (p - start) (start - 0) _ c.copy_from_slice.new.self _ c.copy_from_slice-2.new.self (omega arith) (omega arith) c.copy_from_slice.ensures.after c.copy_from_slice-2.ensures.after i h

@@ -15,14 +15,14 @@ loop-turn-preserved g c =
     let u = c.args.step in
     let i = c.loop-turn.at in
     let k = c.loop-turn.-turn in
-    let n = c.next-index-next.result in
-    let en = c.next-index-next.ensures.value in
+    let n = c.next_index-next.result in
+    let en = c.next_index-next.ensures.value in
     let y = c.loop-turn.quotient in
     let long : length y ≡ p = c.loop-turn.auto.quotient ∙ length-set c.args.quotient.now 0 c.zero.result ∙ c.requires.4 in
     let turn : k + 1 - 1 ≡ k = omega arith in
     let ry = get_or_read y i c.index-quotient-at.result (omega (arith, c.loop-turn.invariant.1)) c.index-quotient-at.is m.zero in
-    let rz = get_or_read c.args.joins.now n c.index-joins-next.result (omega (arith, c.next-index-next.ensures.within, c.requires.3)) c.index-joins-next.is m.zero in
-    (en ∙ next_place p u k i c.loop-turn.auto.-turn c.loop-turn.invariant.0 ∙ ap (λ x. x * u % p) (sym turn), c.next-index-next.ensures.within, λ s steps. walked_more m.laws p u k i n c.args.joins.now y c.join.result s c.loop-turn.auto.-turn c.loop-turn.invariant.1 c.loop-turn.invariant.0 en (omega (arith, c.next-index-next.ensures.within)) (c.join.ensures ∙ ap (λ w. m.join w c.index-joins-next.result) ry ∙ ap (m.join (get_or y i m.zero)) rz) steps (c.loop-turn.invariant.2 s steps))
+    let rz = get_or_read c.args.joins.now n c.index-joins-next.result (omega (arith, c.next_index-next.ensures.within, c.requires.3)) c.index-joins-next.is m.zero in
+    (en ∙ next_place p u k i c.loop-turn.auto.-turn c.loop-turn.invariant.0 ∙ ap (λ x. x * u % p) (sym turn), c.next_index-next.ensures.within, λ s steps. walked_more m.laws p u k i n c.args.joins.now y c.join.result s c.loop-turn.auto.-turn c.loop-turn.invariant.1 c.loop-turn.invariant.0 en (omega (arith, c.next_index-next.ensures.within)) (c.join.ensures ∙ ap (λ w. m.join w c.index-joins-next.result) ry ∙ ap (m.join (get_or y i m.zero)) rz) steps (c.loop-turn.invariant.2 s steps))
 
 pub returns : goal.returns
 returns g c s steps =

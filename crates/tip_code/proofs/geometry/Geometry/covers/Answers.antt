@@ -9,6 +9,6 @@ pub returns : goal.returns
 returns c =
     let g = c.args.self in
     record {
-      value = c.on-line.ensures ∙ ap (λ p. covers p c.args.chain.direction c.args.chain.line c.args.cell.row c.args.cell.column) c.prime.ensures.value;
+      value = c.on_line.ensures ∙ ap (λ p. covers p c.args.chain.direction c.args.chain.line c.args.cell.row c.args.cell.column) c.prime.ensures.value;
       lines = lines (prime_of g) (valid g).prime;
     }

@@ -14,24 +14,24 @@ numbered g = numbering (prime_of g) (valid g).prime
 low : (c : goal.After-prime) → c.args.place < places_in c.prime.result
 low c =
     subst (λ (q : ℕ). c.args.place < places_in q) (sym c.prime.ensures.value)
-    (ltb-true c.args.place (places_in (prime_of c.args.self)) (sym c.has-place.ensures ∙ c.if-not-has-place.false))
+    (ltb-true c.args.place (places_in (prime_of c.args.self)) (sym c.has_place.ensures ∙ c.if-not-has_place.false))
 
-pub returns-then-not-has-place : goal.returns-then-not-has-place
-returns-then-not-has-place c =
+pub returns-then-not-has_place : goal.returns-then-not-has_place
+returns-then-not-has_place c =
     record {
-      stop = place_first (prime_of c.args.self) c.args.place (sym c.has-place.ensures ∙ c.if-not-has-place.true);
+      stop = place_first (prime_of c.args.self) c.args.place (sym c.has_place.ensures ∙ c.if-not-has_place.true);
       value = tt;
       numbering = numbered c.args.self;
     }
 
-pub place-cell-requires : goal.place-cell-requires
-place-cell-requires c = (c.prime.ensures.listed, low c)
+pub place_cell-requires : goal.place_cell-requires
+place_cell-requires c = (c.prime.ensures.listed, low c)
 
 pub returns : goal.returns
 returns c =
-    let cell = c.place-cell.result in
+    let cell = c.place_cell.result in
     record {
-      stop = place_none (prime_of c.args.self) c.args.place (sym c.has-place.ensures ∙ c.if-not-has-place.false);
-      value = subst (λ (q : ℕ). Place q c.args.place cell.row cell.column) c.prime.ensures.value c.place-cell.ensures;
+      stop = place_none (prime_of c.args.self) c.args.place (sym c.has_place.ensures ∙ c.if-not-has_place.false);
+      value = subst (λ (q : ℕ). Place q c.args.place cell.row cell.column) c.prime.ensures.value c.place_cell.ensures;
       numbering = numbered c.args.self;
     }

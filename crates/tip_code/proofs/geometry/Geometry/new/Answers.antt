@@ -8,10 +8,10 @@ use Rattle.tip_code.proofs.geometry.Geometry.new.Goals as goal
 pub returns-in-default : goal.returns-in-default
 returns-in-default c = record { stop = size_prime c.args.p c.args.stripes c.in-default.ensures; value = tt }
 
-pub returns-then-not-in-range : goal.returns-then-not-in-range
-returns-then-not-in-range c =
+pub returns-then-not-in_range : goal.returns-then-not-in_range
+returns-then-not-in_range c =
     record {
-      stop = size_stripes c.args.p c.args.stripes c.in-Some.ensures.2 (sym c.in-range.ensures ∙ c.if-not-in-range.true);
+      stop = size_stripes c.args.p c.args.stripes c.in-Some.ensures.2 (sym c.in_range.ensures ∙ c.if-not-in_range.true);
       value = tt;
     }
 
@@ -21,7 +21,7 @@ returns c =
     let k = c.in-Some.rank in
     let n = c.args.stripes in
     let low : min k 9 ≡ k = omega (arith, c.in-Some.ensures.0) in
-    let range = sym c.in-range.ensures ∙ c.if-not-in-range.false in
+    let range = sym c.in_range.ensures ∙ c.if-not-in_range.false in
     let parts = and_parts (leb 1 n) (leb n 4096) range in
     record {
       stop = size_none c.args.p n c.in-Some.ensures.2 range;

@@ -18,7 +18,7 @@ pub returns : goal.returns
 unfolding members
 returns c =
     let t = c.args.self in
-    c.ones-of.ensures
+    c.ones_of.ensures
     ∙ ap₂ (λ x y. x + y)
     (ones_bits 64 t.low (omega arith) ∙ count_same 64 (bit t.low) (has t) (in_low t))
     (ones_bits 64 t.high (omega arith) ∙ count_same 64 (bit t.high) (λ i. has t (64 + i)) (in_high t))
