@@ -1,17 +1,17 @@
 -- The encoding exists and is the only one; which stop an encode gets.
-use Rattle.std.proofs.Common.{◌≡◌, ℕ, ◌+◌, ◌-◌, ◌<◌, ◌≤◌, Bool, true, false, cond, ◌&&◌, eqb, sym, refl, ap, ◌∙◌, subst, ⊎_elim, arith}
+use Rattle.std.proofs.Common.{◌≡◌, ℕ, ◌+◌, ◌-◌, ◌<◌, ◌≤◌, Bool, true, false, cond, ◌&&◌, eqb, sym, refl, ap, ◌∙◌, ⊎_elim, arith}
 use Rattle.std.proofs.lemmas.Bool.{cond-true, cond-false, eq-eqb, ne_eqb, cases_Bool, eqb-true, eqb-false, and_parts, and_cases}
-use Rattle.tip_code.specs.Encoding.{line_join, Encoded, Encodes, encoding, OneEncoding, EncodeStop, values_length, cells_length}
+use Rattle.tip_code.specs.Encoding.{line_join, Encodes, encoding, OneEncoding, EncodeStop, values_length, cells_length}
 use Rattle.tip_code.specs.Geometry.{cells_in, places_in}
 use Rattle.tip_code.specs.Places.{Place, place_number}
-use Rattle.tip_code.specs.Primes.{listed, PrimeFacts}
+use Rattle.tip_code.specs.Primes.{listed}
 use Rattle.tip_code.specs.Stops.{number, First}
 use Rattle.tip_code.specs.Stripe.{data_cell, parity_column}
 use Rattle.tip_code.specs.declared.chain.Direction.{Direction}
 use Rattle.tip_code.specs.declared.chain.Direction.TheVariants.{Row, Diagonal, Antidiagonal}
 use Rattle.tip_code.specs.declared.stop.Stop.{Stop}
 use Rattle.tip_code.specs.declared.stop.Stop.TheVariants as stop
-use Rattle.tip_code.proofs.Cells.{Data, data_not, parity_cases}
+use Rattle.tip_code.proofs.Cells.{parity_cases}
 use Rattle.tip_code.proofs.Filling.{parity_no_data}
 use Rattle.tip_code.proofs.Data.{line_same}
 use Rattle.tip_code.proofs.Tables.{prime_facts}

@@ -1,15 +1,14 @@
 -- Filling a stripe buffer cell by cell: the places, then the parities of each direction.
-use Rattle.std.proofs.Common.{◌≡◌, ℕ, ◌+◌, ◌-◌, ◌*◌, ◌<◌, ◌≤◌, true, ◌⊎◌, List, length, get_or, set, sym, refl, ap, ◌∙◌, subst, inl, inr, ⊎_elim, arith, get_or-set_other, get_or-set_same}
+use Rattle.std.proofs.Common.{◌≡◌, ℕ, ◌+◌, ◌-◌, ◌<◌, ◌≤◌, true, List, length, set, sym, ap, ◌∙◌, subst, ⊎_elim, arith, get_or-set_other, get_or-set_same}
 use Rattle.std.proofs.lemmas.Bool.{cases_eq}
-use Rattle.tip_code.specs.Encoding.{line_join, Filled, Encoded, Encodes}
-use Rattle.tip_code.specs.Geometry.{cells_in, places_in}
-use Rattle.tip_element.specs.Laws.{Laws}
+use Rattle.tip_code.specs.Encoding.{line_join, Filled, Encodes}
+use Rattle.tip_code.specs.Geometry.{cells_in}
 use Rattle.tip_code.specs.Places.{Place, place_number}
 use Rattle.tip_code.specs.Primes.{listed, PrimeFacts}
 use Rattle.tip_code.specs.Stripe.{cell_index, stripe_of, data_cell, parity_column}
 use Rattle.tip_code.specs.declared.chain.Direction.{Direction}
 use Rattle.tip_code.specs.declared.chain.Direction.TheVariants.{Row, Diagonal, Antidiagonal}
-use Rattle.tip_code.proofs.Cells.{Data, data_facts, index_apart, index_within}
+use Rattle.tip_code.proofs.Cells.{data_facts, index_apart, index_within}
 use Rattle.tip_code.proofs.Data.{line_same}
 use Rattle.tip_code.proofs.Numbers.{numbering}
 use Rattle.tip_code.proofs.Tables.{prime_facts}

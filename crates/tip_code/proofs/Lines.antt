@@ -1,11 +1,11 @@
 -- Lines and the cells on them.
-use Rattle.std.proofs.Common.{◌≡◌, ℕ, ◌+◌, ◌-◌, ◌%◌, ◌<◌, ◌≤◌, Bool, true, not, ◌||◌, ltb, sym, refl, ap, ◌∙◌, ⊎_elim, arith}
+use Rattle.std.proofs.Common.{◌≡◌, ℕ, ◌+◌, ◌-◌, ◌%◌, ◌<◌, Bool, true, not, ◌||◌, ltb, sym, refl, ap, ◌∙◌, ⊎_elim, arith}
 use Rattle.std.proofs.lemmas.Bool.{or_cases, not-true, both_ways, ltb-true}
 use Rattle.tip_code.specs.Primes.{primes, listed}
 use Rattle.tip_code.specs.Stripe.{data_cell, line_of, crossing, Lines}
 use Rattle.tip_code.specs.declared.chain.Direction.{Direction}
 use Rattle.tip_code.specs.declared.chain.Direction.TheVariants.{Row, Diagonal, Antidiagonal}
-use Rattle.tip_code.proofs.Cells.{Data, data_facts}
+use Rattle.tip_code.proofs.Cells.{data_facts}
 use Rattle.tip_code.proofs.Remainders.{turned}
 use Rattle.tip_code.proofs.Tables.{all_below, all_at, each, prime_at}
 

@@ -10,7 +10,7 @@ use Rattle.tip_code.specs.Stops.{number, First}
 use Rattle.tip_code.specs.Stripe.{data_cell}
 use Rattle.tip_code.specs.declared.stop.Stop.{Stop}
 use Rattle.tip_code.specs.declared.stop.Stop.TheVariants as stop
-use Rattle.tip_code.proofs.Cells.{Data, data_facts}
+use Rattle.tip_code.proofs.Cells.{data_facts}
 use Rattle.tip_code.proofs.Tables.{all_below, all_at, each, prime_at, prime_facts}
 
 -- how many data cells of row r stand to the left of column c

@@ -1,5 +1,5 @@
 -- Every geometry is valid; which stop a geometry that is asked for gets.
-use Rattle.std.proofs.Common.{◌≡◌, ℕ, ◌+◌, ◌<◌, ◌≤◌, min, true, false, ◌&&◌, leb, length, refl, ⊎_elim, arith}
+use Rattle.std.proofs.Common.{◌≡◌, ℕ, ◌<◌, ◌≤◌, min, true, false, ◌&&◌, leb, ⊎_elim, arith}
 use Rattle.std.proofs.lemmas.Bool.{both_ways, and_parts, and_cases, leb-true, leb-false}
 use Rattle.tip_code.specs.Geometry.{prime_of, stripes_of, SizeStop, no_prime, no_stripe, too_many}
 use Rattle.tip_code.specs.Primes.{primes, listed, PrimeFacts}

@@ -1,5 +1,5 @@
 -- Tests over ranges and over the table of primes: antt computes the test, these lemmas turn it into a fact at each entry.
-use Rattle.std.proofs.Common.{◌≡◌, ℕ, zero, suc, pred, ◌+◌, ◌-◌, ◌*◌, ◌%◌, ◌<◌, ◌≤◌, Bool, true, false, ◌&&◌, ◌||◌, eqb, leb, List, [], ◌∷◌, length, get_or, sym, refl, ap, ◌∙◌, subst, ⊎_elim, not-suc-le-zero, arith}
+use Rattle.std.proofs.Common.{◌≡◌, ℕ, zero, suc, pred, ◌*◌, ◌%◌, ◌<◌, Bool, true, false, ◌&&◌, ◌||◌, eqb, leb, List, [], ◌∷◌, length, get_or, sym, refl, subst, ⊎_elim, not-suc-le-zero, arith}
 use Rattle.std.proofs.lemmas.Bool.{cases_eq, and_parts, or_cases, or_from, or_left, or_right, eqb-true, eq-eqb, ne_eqb, leb-true, true≢false}
 use Rattle.tip_code.specs.Primes.{primes, among, listed, PrimeFacts}
 

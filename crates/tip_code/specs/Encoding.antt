@@ -1,5 +1,5 @@
 -- Encoded stripes, by the three parity equations, and the encoding of given data.
-use Rattle.std.specs.Prelude.{◌≡◌, ℕ, ◌+◌, ◌-◌, ◌<◌, ◌≤◌, cond, List, length, ◌==◌, ◌≢◌}
+use Rattle.std.specs.Prelude.{◌≡◌, ℕ, ◌+◌, ◌-◌, ◌<◌, ◌≤◌, cond, ◌==◌, ◌≢◌}
 use Rattle.tip_element.specs.Counts.{join_below}
 use Rattle.tip_code.specs.Geometry.{cells_in, places_in}
 use Rattle.tip_code.specs.Places.{Place, place_number}

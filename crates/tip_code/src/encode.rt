@@ -23,7 +23,7 @@ fn is_sized(geometry: Geometry, values: usize, cells: usize) -> bool
 /// The join of the data cells of a line.
 fn line_join<E: Element>(p: usize, cells: &[E], direction: Direction, line: usize) -> E
     requires { (3 ≤ p) × (p ≤ 31) × (line < p - 1) × (length cells.now ≡ cells_in p) }
-    ensures { result ≡ line_join zero join p (stripe_of zero p cells.now) direction line }
+    ensures { result ≡ line_join E.zero E.join p (stripe_of E.zero p cells.now) direction line }
 {
     let mut all = E::zero();
     for column in 0..p {
@@ -38,7 +38,7 @@ fn line_join<E: Element>(p: usize, cells: &[E], direction: Direction, line: usiz
 /// Puts each element into the cell of its place.
 fn place_all<E: Element>(p: usize, values: &[E], cells: &mut [E])
     requires { (listed p ≡ true) × (length values.now ≡ places_in p) × (length cells.old ≡ cells_in p) }
-    ensures { (n r c : ℕ) → Place p n r c → stripe_of zero p cells.new r c ≡ slice_index_or values.now n zero }
+    ensures { (n r c : ℕ) → Place p n r c → stripe_of E.zero p cells.new r c ≡ slice_index_or values.now n E.zero }
 {
     for place in 0..values.len() {
         let cell = place_cell(p, place);
@@ -49,7 +49,7 @@ fn place_all<E: Element>(p: usize, values: &[E], cells: &mut [E])
 /// Sets the parities of one direction, and leaves all other cells.
 fn set_parities<E: Element>(p: usize, cells: &mut [E], direction: Direction)
     requires { (listed p ≡ true) × (length cells.old ≡ cells_in p) }
-    ensures { Filled zero join p direction (p - 1) (stripe_of zero p cells.old) (stripe_of zero p cells.new) }
+    ensures { Filled E.zero E.join p direction (p - 1) (stripe_of E.zero p cells.old) (stripe_of E.zero p cells.new) }
 {
     for line in 0..p - 1 {
         let parity = line_join(p, cells, direction, line);
@@ -62,8 +62,8 @@ fn set_parities<E: Element>(p: usize, cells: &mut [E], direction: Direction)
 /// Stop 3: either has another length, and nothing is written.
 pub fn encode<E: Element>(geometry: Geometry, values: &[E], cells: &mut [E]) -> Result<(), Stop>
     ensures stop { Stopped (EncodeStop (prime_of geometry) (length values.now) (length cells.old)) result }
-    ensures cells { MatchResult result (λ _. Encodes zero join (prime_of geometry) (λ n. get_or values.now n zero) (stripe_of zero (prime_of geometry) cells.new)) (λ _. cells.new ≡ cells.old) }
-    ensures one { OneEncoding zero join (prime_of geometry) }
+    ensures cells { MatchResult result (λ _. Encodes E.zero E.join (prime_of geometry) (λ n. get_or values.now n E.zero) (stripe_of E.zero (prime_of geometry) cells.new)) (λ _. cells.new ≡ cells.old) }
+    ensures one { OneEncoding E.zero E.join (prime_of geometry) }
 {
     if !is_sized(geometry, values.len(), cells.len()) {
         return Err(Stop::Length);

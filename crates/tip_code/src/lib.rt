@@ -1,4 +1,5 @@
 //! The array code: the sizes of an array, the cells of a stripe, and its encoding.
+#![tactic(auto)]
 
 pub mod chain;
 pub mod encode;

@@ -27,7 +27,7 @@ fn column_start(p: usize, column: usize) -> usize
 
 /// Copies each of the others over the element at its index. Where one run is longer, what is beyond the shorter stays.
 fn copy_each<E: Element>(elements: &mut [E], others: &[E])
-    ensures { Copied zero elements.old others.now elements.new }
+    ensures { Copied E.zero elements.old others.now elements.new }
 {
     for i in 0..elements.len().min(others.len()) {
         elements[i] = others[i];
@@ -37,7 +37,7 @@ fn copy_each<E: Element>(elements: &mut [E], others: &[E])
 /// Copies a column into the first p - 1 elements of a run.
 pub(crate) fn read_column<E: Element>(p: usize, cells: &[E], column: usize, run: &mut [E])
     requires { (3 ≤ p) × (p ≤ 31) × (column ≤ p) × (length cells.now ≡ cells_in p) × (length run.old ≡ p) }
-    ensures { (r : ℕ) → r < p - 1 → slice_index_or run.new r zero ≡ stripe_of zero p cells.now r column }
+    ensures { (r : ℕ) → r < p - 1 → slice_index_or run.new r E.zero ≡ stripe_of E.zero p cells.now r column }
 {
     let start = column_start(p, column);
     copy_each(run, &cells[start..start + (p - 1)]);
@@ -52,8 +52,8 @@ pub(crate) fn write_lost<E: Element>(
     cells: &mut [E],
 )
     requires { (3 ≤ p) × (p ≤ 31) × (column ≤ p) × (length run.now ≡ p) × (length cells.old ≡ cells_in p) }
-    ensures elsewhere { Elsewhere p (in_set lost) column (stripe_of zero p cells.old) (stripe_of zero p cells.new) }
-    ensures here { in_set lost column ≡ true → (r : ℕ) → r < p - 1 → stripe_of zero p cells.new r column ≡ slice_index_or run.now r zero }
+    ensures elsewhere { Elsewhere p (in_set lost) column (stripe_of E.zero p cells.old) (stripe_of E.zero p cells.new) }
+    ensures here { in_set lost column ≡ true → (r : ℕ) → r < p - 1 → stripe_of E.zero p cells.new r column ≡ slice_index_or run.now r E.zero }
 {
     if lost.has(column) {
         let start = column_start(p, column);

@@ -44,7 +44,7 @@ fn parities_of_two<E: Element>(
     room: &mut [E],
 ) -> (E, E)
     requires { PrimeFacts p × (first < last) × (last < p) × (length diagonals.now ≡ p) × (length antidiagonals.now ≡ p) × (6 * p ≤ length room.old) }
-    ensures { (X : ℕ → ℕ → E) (r : List E) (e : E) → Encoded zero join p X → KnownSums zero join p (λ c. (c == first) || c == last) X diagonals.now antidiagonals.now r e → (result.0 ≡ excess zero join p X first) × (result.1 ≡ excess zero join p X last) }
+    ensures { (X : ℕ → ℕ → E) (r : List E) (e : E) → Encoded E.zero E.join p X → KnownSums E.zero E.join p (λ c. (c == first) || c == last) X diagonals.now antidiagonals.now r e → (result.0 ≡ excess E.zero E.join p X first) × (result.1 ≡ excess E.zero E.join p X last) }
 {
     let (folded_diagonals, folded_antidiagonals, joins, rest) = three_runs(p, room);
     let (x, y, _run, _rest) = three_runs(p, rest);
@@ -75,7 +75,7 @@ fn cells_of_two<E: Element>(
     room: &mut [E],
 )
     requires { PrimeFacts p × (first < last) × (last < p) × (length cells.now ≡ cells_in p) × (length x.old ≡ p) × (length y.old ≡ p) × (length rows.old ≡ p) × (9 * p ≤ length room.old) }
-    ensures { FoundTwo zero join p first last (stripe_of zero p cells.now) x.new y.new rows.new }
+    ensures { FoundTwo E.zero E.join p first last (stripe_of E.zero p cells.now) x.new y.new rows.new }
 {
     let (diagonals, antidiagonals, joins, rest) = three_runs(p, room);
     let unknown = Sought::Two { first, last };
@@ -100,7 +100,7 @@ fn recover_two<E: Element>(
     room: &mut [E],
 )
     requires { PrimeFacts p × SeeksTwo p lost first last × (length cells.old ≡ cells_in p) × (13 * p ≤ length room.old) }
-    ensures { Solved zero join p (in_set lost) (stripe_of zero p cells.old) (stripe_of zero p cells.new) }
+    ensures { Solved E.zero E.join p (in_set lost) (stripe_of E.zero p cells.old) (stripe_of E.zero p cells.new) }
 {
     let (x, y, rows, rest) = three_runs(p, room);
     cells_of_two(p, first, last, cells, x, y, rows, rest);
@@ -121,7 +121,7 @@ fn parities_of_three<E: Element>(
     room: &mut [E],
 ) -> (E, E, E)
     requires { PrimeFacts p × (at.first < at.middle) × (at.middle < at.last) × (at.last < p) × (length rows.now ≡ p) × (length diagonals.now ≡ p) × (length antidiagonals.now ≡ p) × (length joins.old ≡ p) × (6 * p ≤ length room.old) }
-    ensures { (X : ℕ → ℕ → E) (r : List E) → Encoded zero join p X → KnownSums zero join p (λ c. (c == at.first) || (c == at.middle || c == at.last)) X diagonals.now antidiagonals.now r all → RowSums zero join p X r rows.now → (result.0 ≡ excess zero join p X at.first) × (result.1 ≡ excess zero join p X at.middle) × (result.2 ≡ excess zero join p X at.last) }
+    ensures { (X : ℕ → ℕ → E) (r : List E) → Encoded E.zero E.join p X → KnownSums E.zero E.join p (λ c. (c == at.first) || (c == at.middle || c == at.last)) X diagonals.now antidiagonals.now r all → RowSums E.zero E.join p X r rows.now → (result.0 ≡ excess E.zero E.join p X at.first) × (result.1 ≡ excess E.zero E.join p X at.middle) × (result.2 ≡ excess E.zero E.join p X at.last) }
 {
     let (folded_rows, folded_diagonals, folded_antidiagonals, rest) = three_runs(p, room);
     let (x, m, y, _rest) = three_runs(p, rest);
@@ -154,7 +154,7 @@ fn cells_of_three<E: Element>(
     room: &mut [E],
 )
     requires { PrimeFacts p × (at.first < at.middle) × (at.middle < at.last) × (at.last < p) × (length cells.now ≡ cells_in p) × (length x.old ≡ p) × (length m.old ≡ p) × (length y.old ≡ p) × (10 * p ≤ length room.old) }
-    ensures { FoundThree zero join p at (stripe_of zero p cells.now) x.new m.new y.new }
+    ensures { FoundThree E.zero E.join p at (stripe_of E.zero p cells.now) x.new m.new y.new }
 {
     let (rows, diagonals, antidiagonals, rest) = three_runs(p, room);
     let (joins, rest) = rest.split_at_mut(p);
@@ -183,7 +183,7 @@ fn cells_of_three<E: Element>(
 /// Finds three columns, and writes back those that are lost.
 fn recover_three<E: Element>(p: usize, at: Triple, lost: Columns, cells: &mut [E], room: &mut [E])
     requires { PrimeFacts p × SeeksThree p lost at × (length cells.old ≡ cells_in p) × (13 * p ≤ length room.old) }
-    ensures { Solved zero join p (in_set lost) (stripe_of zero p cells.old) (stripe_of zero p cells.new) }
+    ensures { Solved E.zero E.join p (in_set lost) (stripe_of E.zero p cells.old) (stripe_of E.zero p cells.new) }
 {
     let (x, m, y, rest) = three_runs(p, room);
     cells_of_three(p, at, cells, x, m, y, rest);
@@ -195,7 +195,7 @@ fn recover_three<E: Element>(p: usize, at: Triple, lost: Columns, cells: &mut [E
 /// Solves at most three lost columns.
 pub(crate) fn recover<E: Element>(p: usize, lost: Columns, cells: &mut [E], room: &mut [E])
     requires { PrimeFacts p × (size lost ≤ 3) × (length cells.old ≡ cells_in p) × (13 * p ≤ length room.old) }
-    ensures { Solved zero join p (in_set lost) (stripe_of zero p cells.old) (stripe_of zero p cells.new) }
+    ensures { Solved E.zero E.join p (in_set lost) (stripe_of E.zero p cells.old) (stripe_of E.zero p cells.new) }
 {
     match seek(p, lost) {
         Sought::Two { first, last } => recover_two(p, first, last, lost, cells, room),

@@ -75,7 +75,7 @@ fn is_few(lost: Columns) -> bool
 /// Makes the first elements zero.
 fn clear_first<E: Element>(elements: &mut [E], count: usize)
     requires { count ≤ length elements.old }
-    ensures { Cleared zero count elements.old elements.new }
+    ensures { Cleared E.zero count elements.old elements.new }
 {
     for i in 0..count {
         elements[i] = E::zero();
@@ -96,9 +96,9 @@ pub fn solve<E: Element>(
     work: &mut [E],
 ) -> Result<(), Stop>
     ensures stop { Stopped (SolveStop (prime_of geometry) (length cells.old) (length work.old) (work_in (prime_of geometry)) lost) result }
-    ensures cells { MatchResult result (λ _. Solved zero join (prime_of geometry) (in_set lost) (stripe_of zero (prime_of geometry) cells.old) (stripe_of zero (prime_of geometry) cells.new)) (λ _. cells.new ≡ cells.old) }
-    ensures work { WorkAfter zero (work_in (prime_of geometry)) work.old work.new result }
-    ensures decided { Decided zero join (prime_of geometry) }
+    ensures cells { MatchResult result (λ _. Solved E.zero E.join (prime_of geometry) (in_set lost) (stripe_of E.zero (prime_of geometry) cells.old) (stripe_of E.zero (prime_of geometry) cells.new)) (λ _. cells.new ≡ cells.old) }
+    ensures work { WorkAfter E.zero (work_in (prime_of geometry)) work.old work.new result }
+    ensures decided { Decided E.zero E.join (prime_of geometry) }
 {
     let size = work_len(geometry);
     fitting(geometry, cells.len(), lost, work.len(), size)?;
@@ -121,7 +121,7 @@ pub fn solve_beside<E: Element>(
     room: &mut [E],
 ) -> Result<(), Stop>
     ensures stop { Stopped (SolveStop (prime_of geometry) (length cells.old) (length room.old) (room_in (prime_of geometry)) lost) result }
-    ensures cells { MatchResult result (λ _. Solved zero join (prime_of geometry) (in_set lost) (stripe_of zero (prime_of geometry) cells.old) (stripe_of zero (prime_of geometry) cells.new)) (λ _. cells.new ≡ cells.old) }
+    ensures cells { MatchResult result (λ _. Solved E.zero E.join (prime_of geometry) (in_set lost) (stripe_of E.zero (prime_of geometry) cells.old) (stripe_of E.zero (prime_of geometry) cells.new)) (λ _. cells.new ≡ cells.old) }
 {
     fitting(geometry, cells.len(), lost, room.len(), room_len(geometry))?;
     if !is_few(lost) {

@@ -24,7 +24,7 @@ pub(crate) fn find_pair<E: Element>(
 )
     requires prime_facts { PrimeFacts p × (first < last) × (last < p) }
     requires sized { (length diagonals.now ≡ p) × (length antidiagonals.now ≡ p) × (length joins.old ≡ p) × (length x.old ≡ p) × (length y.old ≡ p) }
-    ensures { (X Y : ℕ → E) → PairSums zero join p first last diagonals.now antidiagonals.now X Y → Holds zero p x.new X × Holds zero p y.new Y }
+    ensures { (X Y : ℕ → E) → PairSums E.zero E.join p first last diagonals.now antidiagonals.now X Y → Holds E.zero p x.new X × Holds E.zero p y.new Y }
 {
     copy_turned(p, p + first + first - last, diagonals, joins);
     join_turned(p, p - last, antidiagonals, joins);
@@ -49,7 +49,7 @@ pub(crate) fn find_middle<E: Element>(
 )
     requires prime_facts { PrimeFacts p × (at.first < at.middle) × (at.middle < at.last) × (at.last < p) }
     requires sized { (length rows.now ≡ p) × (length diagonals.now ≡ p) × (length antidiagonals.now ≡ p) × (length joins.old ≡ p) × (length steps.old ≡ p) × (length m.old ≡ p) }
-    ensures { (X M Y : ℕ → E) → TripleSums zero join p at.first at.middle at.last rows.now diagonals.now antidiagonals.now X M Y → Holds zero p m.new M }
+    ensures { (X M Y : ℕ → E) → TripleSums E.zero E.join p at.first at.middle at.last rows.now diagonals.now antidiagonals.now X M Y → Holds E.zero p m.new M }
 {
     joins.copy_from_slice(rows);
     join_turned(p, p + at.first - at.last, rows, joins);
@@ -78,7 +78,7 @@ pub(crate) fn find_three<E: Element>(
 )
     requires prime_facts { PrimeFacts p × (at.first < at.middle) × (at.middle < at.last) × (at.last < p) }
     requires sized { (length rows.now ≡ p) × (length diagonals.old ≡ p) × (length antidiagonals.old ≡ p) × (length joins.old ≡ p) × (length x.old ≡ p) × (length m.old ≡ p) × (length y.old ≡ p) }
-    ensures { (X M Y : ℕ → E) → TripleSums zero join p at.first at.middle at.last rows.now diagonals.old antidiagonals.old X M Y → Holds zero p x.new X × Holds zero p m.new M × Holds zero p y.new Y }
+    ensures { (X M Y : ℕ → E) → TripleSums E.zero E.join p at.first at.middle at.last rows.now diagonals.old antidiagonals.old X M Y → Holds E.zero p x.new X × Holds E.zero p m.new M × Holds E.zero p y.new Y }
 {
     find_middle(p, at, rows, diagonals, antidiagonals, joins, x, m);
     join_turned(p, p - at.middle, m, diagonals);

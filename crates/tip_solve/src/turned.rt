@@ -17,7 +17,7 @@ pub(crate) fn wrapped(p: usize, number: usize) -> usize
 /// Joins a column into another, turned round.
 pub(crate) fn join_turned<E: Element>(p: usize, turn: usize, column: &[E], sum: &mut [E])
     requires { (0 < p) × (p ≤ 31) × (turn < p + p) × (length column.now ≡ p) × (length sum.old ≡ p) }
-    ensures { (i : ℕ) → i < p → slice_index_or sum.new i zero ≡ join (slice_index_or sum.old i zero) (slice_index_or column.now ((i + turn) % p) zero) }
+    ensures { (i : ℕ) → i < p → slice_index_or sum.new i E.zero ≡ E.join (slice_index_or sum.old i E.zero) (slice_index_or column.now ((i + turn) % p) E.zero) }
 {
     let start = wrapped(p, turn);
     let cut = p - start;
@@ -28,7 +28,7 @@ pub(crate) fn join_turned<E: Element>(p: usize, turn: usize, column: &[E], sum: 
 /// Copies a column, turned round.
 pub(crate) fn copy_turned<E: Element>(p: usize, turn: usize, column: &[E], copy: &mut [E])
     requires { (0 < p) × (p ≤ 31) × (turn < p + p) × (length column.now ≡ p) × (length copy.old ≡ p) }
-    ensures { (i : ℕ) → i < p → slice_index_or copy.new i zero ≡ slice_index_or column.now ((i + turn) % p) zero }
+    ensures { (i : ℕ) → i < p → slice_index_or copy.new i E.zero ≡ slice_index_or column.now ((i + turn) % p) E.zero }
 {
     let start = wrapped(p, turn);
     let cut = p - start;

@@ -19,7 +19,7 @@ fn next_index(p: usize, at: usize, step: usize) -> usize
 /// itself moved by `step` stand in `joins`, but for its element at 0, which is joined to all.
 pub(crate) fn divide<E: Element>(p: usize, step: usize, joins: &[E], quotient: &mut [E])
     requires { PrimeFacts p × (0 < step) × (step < p) × (length joins.now ≡ p) × (length quotient.old ≡ p) }
-    ensures { (s : ℕ → E) → Steps zero join p step joins.now s → Divided zero join p quotient.new s }
+    ensures { (s : ℕ → E) → Steps E.zero E.join p step joins.now s → Divided E.zero E.join p quotient.new s }
 {
     let mut at = 0;
     quotient[0] = E::zero();
@@ -32,7 +32,7 @@ pub(crate) fn divide<E: Element>(p: usize, step: usize, joins: &[E], quotient: &
 
 /// Joins an element onto each.
 pub(crate) fn join_onto<E: Element>(elements: &mut [E], by: E)
-    ensures { (k : ℕ) → k < length elements.old → slice_index_or elements.new k zero ≡ join (slice_index_or elements.old k zero) by }
+    ensures { (k : ℕ) → k < length elements.old → slice_index_or elements.new k E.zero ≡ E.join (slice_index_or elements.old k E.zero) by }
 {
     for i in 0..elements.len() {
         elements[i] = elements[i].join(by);

@@ -17,12 +17,12 @@ returns-then-cells c =
       value = tt;
     }
 
-pub returns-in-default : goal.returns-in-default
-returns-in-default c =
+pub returns-in_default : goal.returns-in_default
+returns-in_default c =
     let p = prime_of c.args.geometry in
     record {
       stop = cover_none p (length c.args.cells.now) (cells_in p) (sym c.is_traced.ensures ∙ c.if-not-is_traced.false) (c.if-cells.false ∙ c.cells.ensures);
-      value = c.in-default.ensures;
+      value = c.in_default.ensures;
     }
 
 pub find-requires : goal.find-requires

@@ -1,4 +1,4 @@
-use Rattle.std.proofs.Common.{◌≡◌, ℕ, length, get_or, sym, refl, ap, ◌∙◌, subst}
+use Rattle.std.proofs.Common.{ℕ, length, get_or, sym, refl, ap, ◌∙◌, subst}
 use Rattle.tip_code.specs.Encoding.{Encodes, OneEncoding}
 use Rattle.tip_code.specs.Geometry.{prime_of, cells_in, places_in}
 use Rattle.tip_code.specs.Stripe.{stripe_of}

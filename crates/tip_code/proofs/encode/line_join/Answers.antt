@@ -27,7 +27,7 @@ loop-column-preserved g c =
           let is : data_cell p r k ≡ true = sym c.is_data.ensures ∙ w.if-is_data.true in
           let read = get_or_read c.args.cells.now w.index_of.result w.index-cells-index_of.result (omega (arith, w.index_of.ensures.within, c.requires.3)) w.index-cells-index_of.is m.zero in
           let here = read ∙ ap (λ n. get_or c.args.cells.now n m.zero) w.index_of.ensures.value ∙ sym (at ∙ datum_in m.zero p X r k is) in
-          w.all-is ∙ w.join_all.ensures ∙ join_more m.laws k f c.loop-column.all w.index-cells-index_of.result c.loop-column.invariant here
+          w.all-is ∙ w.join-all.ensures ∙ join_more m.laws k f c.loop-column.all w.index-cells-index_of.result c.loop-column.invariant here
       | else-is_data w ↦
           w.all-is ∙ join_skip m.laws k f c.loop-column.all c.loop-column.invariant (at ∙ datum_out m.zero p X r k (sym c.is_data.ensures ∙ w.if-is_data.false))
     ]

@@ -1,7 +1,7 @@
-use Rattle.std.proofs.Common.{◌≡◌, ℕ, ◌+◌, ◌<◌, length, get_or, set, sym, ap, ◌∙◌, subst, arith}
+use Rattle.std.proofs.Common.{◌≡◌, ℕ, ◌+◌, ◌<◌, get_or, set, sym, ◌∙◌, subst, arith}
 use Rattle.std.proofs.lemmas.List.{get_or_read}
 use Rattle.tip_code.specs.Places.{Place}
-use Rattle.tip_code.specs.Stripe.{cell_index, stripe_of}
+use Rattle.tip_code.specs.Stripe.{stripe_of}
 use Rattle.tip_code.proofs.Cells.{data_facts}
 use Rattle.tip_code.proofs.Filling.{placed_more}
 use Rattle.tip_code.proofs.Numbers.{numbering}

@@ -1,4 +1,4 @@
-use Rattle.std.proofs.Common.{◌≡◌, ℕ, ◌+◌, length, set, sym, ap, ◌∙◌, subst, arith}
+use Rattle.std.proofs.Common.{◌≡◌, ℕ, ◌+◌, set, sym, ap, ◌∙◌, subst, arith}
 use Rattle.tip_code.specs.Encoding.{Filled}
 use Rattle.tip_code.specs.Stripe.{cell_index, stripe_of, parity_column}
 use Rattle.tip_code.proofs.Filling.{filled_more}

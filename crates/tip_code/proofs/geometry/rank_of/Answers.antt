@@ -1,4 +1,4 @@
-use Rattle.std.proofs.Common.{arith, rules}
+use Rattle.std.proofs.Common.{arith}
 use Rattle.tip_code.specs.Primes.{primes}
 use Rattle.tip_code.proofs.Tables.{among_none}
 use Rattle.tip_code.proofs.geometry.rank_of.Goals as goal

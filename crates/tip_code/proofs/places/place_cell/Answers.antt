@@ -1,6 +1,4 @@
-use Rattle.std.proofs.Common.{◌≤◌, arith}
 use Rattle.tip_code.proofs.Numbers.{place_row, place_left, place_is}
-use Rattle.tip_code.proofs.Tables.{prime_facts}
 use Rattle.tip_code.proofs.places.place_cell.Goals as goal
 
 pub data_column-column-requires : goal.data_column-column-requires

@@ -10,10 +10,10 @@ returns-in_err-geometry c =
     let e = err_from_is_err_and c.from_residual.result c.from_residual.ensures.1 in
     rw (e.1, e.2) record { stop = choice_prime c.args.p c.args.lost _ c.in_err-geometry.ensures.stop; value = tt }
 
-pub returns-in-default : goal.returns-in-default
-returns-in-default c =
+pub returns-in_default : goal.returns-in_default
+returns-in_default c =
     record {
-      stop = choice_column c.args.p c.args.lost c.in_ok-geometry.ensures.stop (λ w. subst (Within c.args.p) c.in-default.is w);
+      stop = choice_column c.args.p c.args.lost c.in_ok-geometry.ensures.stop (λ w. subst (Within c.args.p) c.in_default.is w);
       value = tt;
     }
 

@@ -21,7 +21,7 @@ loop-column-preserved g c =
     let q = c.if-not-has in
     elim c.if-not-has.branch [
       | then-not-has w ↦
-          known_more m.laws p t X l.column l.diagonals l.antidiagonals l.rows q.diagonals q.antidiagonals q.rows l.all w.add_column.result q.all (sym c.has.ensures ∙ w.if-not-has.true) l.invariant (λ i h. ap (λ xs. get_or xs i m.zero) w.diagonals-is ∙ w.add_column.ensures.diagonals i h) (λ i h. ap (λ xs. get_or xs i m.zero) w.antidiagonals-is ∙ w.add_column.ensures.antidiagonals i h) (λ i h. ap (λ xs. get_or xs i m.zero) w.rows-is ∙ w.add_column.ensures.rows i h) (w.all-is ∙ w.join_all.ensures) w.add_column.ensures.parities
+          known_more m.laws p t X l.column l.diagonals l.antidiagonals l.rows q.diagonals q.antidiagonals q.rows l.all w.add_column.result q.all (sym c.has.ensures ∙ w.if-not-has.true) l.invariant (λ i h. ap (λ xs. get_or xs i m.zero) w.diagonals-is ∙ w.add_column.ensures.diagonals i h) (λ i h. ap (λ xs. get_or xs i m.zero) w.antidiagonals-is ∙ w.add_column.ensures.antidiagonals i h) (λ i h. ap (λ xs. get_or xs i m.zero) w.rows-is ∙ w.add_column.ensures.rows i h) (w.all-is ∙ w.join-all.ensures) w.add_column.ensures.parities
       | else-not-has w ↦
           known_skip m.laws p t X l.column l.diagonals l.antidiagonals l.rows q.diagonals q.antidiagonals q.rows l.all q.all (sym c.has.ensures ∙ w.if-not-has.false) l.invariant w.diagonals-is w.antidiagonals-is w.rows-is w.all-is
     ]

@@ -1,12 +1,12 @@
-use Rattle.std.proofs.Common.{◌≡◌, ◌-◌, ◌≤◌, min, leb, get_or, sym, ap, ◌∙◌, arith}
+use Rattle.std.proofs.Common.{◌≡◌, min, leb, get_or, sym, ap, ◌∙◌, arith}
 use Rattle.std.proofs.lemmas.Bool.{and_parts, leb-true}
 use Rattle.tip_code.specs.Geometry.{prime_of}
 use Rattle.tip_code.specs.Primes.{primes}
 use Rattle.tip_code.proofs.Sizes.{size_prime, size_stripes, size_none}
 use Rattle.tip_code.proofs.geometry.Geometry.new.Goals as goal
 
-pub returns-in-default : goal.returns-in-default
-returns-in-default c = record { stop = size_prime c.args.p c.args.stripes c.in-default.ensures; value = tt }
+pub returns-in_default : goal.returns-in_default
+returns-in_default c = record { stop = size_prime c.args.p c.args.stripes c.in_default.ensures; value = tt }
 
 pub returns-then-not-in_range : goal.returns-then-not-in_range
 returns-then-not-in_range c =

@@ -1,4 +1,4 @@
-use Rattle.std.proofs.Common.{◌≡◌, ℕ, ◌≤◌, true, get_or, sym, ap, ◌∙◌, subst, arith}
+use Rattle.std.proofs.Common.{◌≡◌, ℕ, ◌≤◌, true, get_or, sym, ap, ◌∙◌, subst}
 use Rattle.tip_code.specs.Geometry.{prime_of}
 use Rattle.tip_code.specs.Primes.{primes, listed, PrimeFacts}
 use Rattle.tip_code.proofs.Sizes.{valid, facts}
