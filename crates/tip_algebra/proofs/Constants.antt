@@ -1,8 +1,8 @@
 -- The constant that a division leaves open.
-use Rattle.std.proofs.Common.{◌≡◌, ℕ, ◌+◌, ◌-◌, ◌*◌, ◌%◌, ◌<◌, ◌≤◌, List, [], ◌∷◌, length, get_or, sym, refl, ap, ◌∙◌, arith}
+use Rattle.std.proofs.Common.{◌≡◌, ℕ, ◌<◌, List, [], ◌∷◌, get_or, ap, ◌∙◌}
 use Rattle.tip_element.specs.Laws.{Laws}
-use Rattle.tip_algebra.specs.Cyclic.{Per, Holds, Divided}
-use Rattle.tip_algebra.proofs.Group.{Expr, o, v, ◌⊕◌, solve}
+use Rattle.tip_algebra.specs.Cyclic.{Holds, Divided}
+use Rattle.tip_algebra.proofs.Group.{v, ◌⊕◌, solve}
 
 module _ {E : Type 0} {none : E} {join : E → E → E} (laws : Laws none join) where
   -- a division, with the constant joined in again

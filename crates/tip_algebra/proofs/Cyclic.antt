@@ -1,5 +1,5 @@
 -- Indices mod p, by periodic functions.
-use Rattle.std.proofs.Common.{◌≡◌, ℕ, zero, suc, ◌+◌, ◌-◌, ◌*◌, ◌/◌, ◌%◌, ◌<◌, ◌≤◌, List, get_or, sym, refl, ap, ◌∙◌, add-zero, mod-lt, mod-eq_of_lt, suc-mul, div-add-mod', zero-mul, arith}
+use Rattle.std.proofs.Common.{◌≡◌, ℕ, zero, suc, ◌+◌, ◌-◌, ◌*◌, ◌/◌, ◌%◌, ◌<◌, ◌≤◌, List, get_or, sym, ap, ◌∙◌, add-zero, mod-lt, mod-eq_of_lt, suc-mul, div-add-mod', zero-mul, arith}
 use native.Mathlib.Nat.{add-mod_right, add-mod-mod, mod-add-mod}
 use Rattle.tip_code.proofs.Remainders.{wrap_high}
 use Rattle.tip_algebra.specs.Cyclic.{Per, Holds}

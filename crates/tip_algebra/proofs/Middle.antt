@@ -1,5 +1,5 @@
 -- The middle one of three unknown columns: four joins that cross in it leave it alone, and two divisions then give it.
-use Rattle.std.proofs.Common.{◌≡◌, ℕ, ◌+◌, ◌-◌, ◌*◌, ◌%◌, ◌<◌, ◌≤◌, List, [], ◌∷◌, length, get_or, sym, refl, ap, ◌∙◌, mod-lt, arith}
+use Rattle.std.proofs.Common.{◌≡◌, ℕ, ◌+◌, ◌-◌, ◌%◌, ◌<◌, List, [], ◌∷◌, get_or, sym, ap, ◌∙◌, mod-lt, arith}
 use Rattle.tip_element.specs.Counts.{join_below}
 use Rattle.tip_element.specs.Laws.{Laws}
 use Rattle.tip_element.proofs.Joins.{join_same}
@@ -8,7 +8,7 @@ use Rattle.tip_algebra.specs.Cyclic.{Per, Holds, Steps, Divided}
 use Rattle.tip_algebra.specs.Unknown.{PairSums, TripleSums}
 use Rattle.tip_algebra.proofs.Constants.{fixed, at_zero}
 use Rattle.tip_algebra.proofs.Cyclic.{per_at, per-mod, per_mod_add, held-mod, held_mod_add}
-use Rattle.tip_algebra.proofs.Group.{Expr, o, v, ◌⊕◌, Eqn, ◌≐◌, solve, solveBy}
+use Rattle.tip_algebra.proofs.Group.{v, ◌⊕◌, ◌≐◌, solve, solveBy}
 use Rattle.tip_algebra.proofs.Pair.{two_per}
 use Rattle.tip_algebra.proofs.Sums.{sum_join, sum_shift, sum_odd}
 

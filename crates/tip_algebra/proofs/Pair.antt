@@ -1,5 +1,5 @@
 -- Two unknown columns from their joins along diagonals and antidiagonals.
-use Rattle.std.proofs.Common.{◌≡◌, ℕ, ◌+◌, ◌-◌, ◌*◌, ◌%◌, ◌<◌, ◌≤◌, List, [], ◌∷◌, length, get_or, sym, refl, ap, ◌∙◌, ⊎_elim, mod-lt, arith}
+use Rattle.std.proofs.Common.{◌≡◌, ℕ, ◌+◌, ◌-◌, ◌%◌, ◌<◌, ◌≤◌, List, [], ◌∷◌, get_or, sym, ap, ◌∙◌, ⊎_elim, mod-lt, arith}
 use native.Mathlib.Nat.{add-mod-mod}
 use Rattle.std.proofs.lemmas.Bool.{cases_lt}
 use Rattle.tip_element.specs.Laws.{Laws}
@@ -7,8 +7,8 @@ use Rattle.tip_code.proofs.Remainders.{wrap_low, wrap_high}
 use Rattle.tip_algebra.specs.Cyclic.{Per, Holds, Steps, Divided}
 use Rattle.tip_algebra.specs.Unknown.{PairSums}
 use Rattle.tip_algebra.proofs.Constants.{fixed, at_zero}
-use Rattle.tip_algebra.proofs.Cyclic.{per_at, per-mod, per_mod_add, held-mod, held_mod_add}
-use Rattle.tip_algebra.proofs.Group.{Expr, o, v, ◌⊕◌, Eqn, ◌≐◌, solve, solveBy}
+use Rattle.tip_algebra.proofs.Cyclic.{per_at, per-mod, held-mod, held_mod_add}
+use Rattle.tip_algebra.proofs.Group.{v, ◌⊕◌, ◌≐◌, solveBy}
 
 -- twice a distance is no multiple of p, which is odd
 pub doubled : (p u n : ℕ) → 0 < u → u < p → p % 2 ≡ 1 → n ≡ (u + u) % p → 0 < n

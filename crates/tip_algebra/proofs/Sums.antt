@@ -1,11 +1,11 @@
 -- The laws of finite joins.
-use Rattle.std.proofs.Common.{◌≡◌, ℕ, zero, suc, ◌+◌, ◌/◌, ◌%◌, ◌<◌, Bool, true, false, cond, ◌||◌, eqb, List, [], ◌∷◌, sym, refl, ap, ◌∙◌, ⊎_elim, not-suc-le-zero, add-zero, add-suc, suc-add, zero-add, arith}
+use Rattle.std.proofs.Common.{◌≡◌, ℕ, zero, suc, ◌+◌, ◌/◌, ◌%◌, ◌<◌, eqb, [], ◌∷◌, sym, refl, ap, ◌∙◌, ⊎_elim, not-suc-le-zero, add-zero, zero-add, arith}
 use Rattle.std.proofs.lemmas.Bool.{cases_eq, eq-eqb, ne_eqb, cond-true, cond-false}
 use Rattle.tip_element.specs.Laws.{Laws}
 use Rattle.tip_element.specs.Counts.{join_below}
 use Rattle.tip_element.proofs.Joins.{join_same, right}
 use Rattle.tip_algebra.specs.Known.{except}
-use Rattle.tip_algebra.proofs.Group.{Expr, o, v, ◌⊕◌, solve, middle}
+use Rattle.tip_algebra.proofs.Group.{o, v, ◌⊕◌, solve, middle}
 
 module _ {E : Type 0} {none : E} {join : E → E → E} (laws : Laws none join) where
   pub sum_join : (n : ℕ) (f h : ℕ → E) → join_below none join n (λ i. join (f i) (h i)) ≡ join (join_below none join n f) (join_below none join n h)

@@ -1,14 +1,13 @@
 -- Unfolding a column in a list, and folding it back.
-use Rattle.std.proofs.Common.{◌≡◌, ℕ, ◌+◌, ◌-◌, ◌%◌, ◌<◌, ◌≤◌, Bool, true, false, cond, eqb, ◌⊎◌, List, [], ◌∷◌, length, get_or, set, sym, refl, ap, ◌∙◌, ap₂, ⊎_elim, mod-eq_of_lt, arith, length-set, get_or-set_other, get_or-set_same}
+use Rattle.std.proofs.Common.{◌≡◌, ℕ, ◌+◌, ◌-◌, ◌%◌, ◌<◌, eqb, List, [], ◌∷◌, length, get_or, set, sym, ap, ◌∙◌, ap₂, ⊎_elim, mod-eq_of_lt, arith, length-set, get_or-set_other, get_or-set_same}
 use Rattle.std.proofs.lemmas.Bool.{cases_eq, eq-eqb, cond-true}
 use Rattle.tip_element.specs.Laws.{Laws}
-use Rattle.tip_code.specs.Stripe.{data_cell}
-use Rattle.tip_code.proofs.Cells.{Data, data_from, data_not}
+use Rattle.tip_code.proofs.Cells.{data_from, data_not}
 use Rattle.tip_code.proofs.Data.{datum_in, datum_out}
 use Rattle.tip_algebra.specs.Cyclic.{Holds, opposite}
 use Rattle.tip_algebra.specs.Unfolded.{unfolded, excess}
 use Rattle.tip_algebra.proofs.Decided.{diagonal_top, excess_past}
-use Rattle.tip_algebra.proofs.Group.{Expr, o, v, ◌⊕◌, Eqn, ◌≐◌, solveBy}
+use Rattle.tip_algebra.proofs.Group.{v, ◌⊕◌, ◌≐◌, solveBy}
 use Rattle.tip_algebra.proofs.Rules.{mod_at, unfolded_top, unfolded_at, unfolded_zero}
 
 -- the mirror image of an index: a row, and the last

@@ -1,11 +1,11 @@
 -- The walk by steps of u round p indices: it divides by one plus a shift.
-use Rattle.std.proofs.Common.{◌≡◌, ℕ, zero, suc, ◌+◌, ◌-◌, ◌*◌, ◌%◌, ◌<◌, ◌≤◌, List, [], ◌∷◌, length, get_or, set, sym, refl, ap, ◌∙◌, subst, ⊎_elim, mod-lt, suc-mul, zero-mul, arith, get_or-set_other, get_or-set_same}
+use Rattle.std.proofs.Common.{◌≡◌, ℕ, zero, suc, ◌+◌, ◌-◌, ◌*◌, ◌%◌, ◌<◌, ◌≤◌, List, [], ◌∷◌, length, get_or, set, sym, ap, ◌∙◌, ⊎_elim, suc-mul, zero-mul, arith, get_or-set_other, get_or-set_same}
 use native.Mathlib.Nat.{mod-add-mod, zero-mod}
 use Rattle.std.proofs.lemmas.Bool.{cases_eq}
 use Rattle.tip_element.specs.Laws.{Laws}
 use Rattle.tip_code.specs.Primes.{PrimeFacts}
 use Rattle.tip_algebra.specs.Cyclic.{Steps, Divided}
-use Rattle.tip_algebra.proofs.Group.{Expr, o, v, ◌⊕◌, solve}
+use Rattle.tip_algebra.proofs.Group.{v, ◌⊕◌, solve}
 
 -- Divided, at the indices that k steps have reached
 abbrev pub Walked : {E : Type 0} → E → (E → E → E) → ℕ → ℕ → ℕ → List E → (ℕ → E) → Type 0

@@ -1,8 +1,8 @@
 -- Sets of columns with one more in them, and sets that end.
-use Rattle.std.proofs.Common.{◌≡◌, ℕ, zero, suc, ◌+◌, ◌-◌, ◌*◌, ◌/◌, ◌%◌, ◌^◌, ◌<◌, ◌≤◌, Bool, true, false, ◌||◌, eqb, sym, refl, ap, ◌∙◌, ⊎_elim, arith, lit<}
+use Rattle.std.proofs.Common.{◌≡◌, ℕ, zero, suc, ◌+◌, ◌-◌, ◌/◌, ◌%◌, ◌^◌, ◌<◌, ◌≤◌, Bool, true, false, ◌||◌, eqb, sym, refl, ap, ◌∙◌, ⊎_elim, arith, lit<}
 use lib.Bits.{bit_or}
 use Rattle.std.proofs.lemmas.Nat.{or_shr, or_mod, shr-shr, shr_le, mod_below, pow_pos}
-use Rattle.std.proofs.lemmas.Bool.{cases_lt, both_ways, eqb-true, eq-eqb, cases_Bool}
+use Rattle.std.proofs.lemmas.Bool.{cases_lt, both_ways, eqb-true, eq-eqb}
 use Rattle.tip_element.specs.Laws.{Exactly}
 use Rattle.tip_element.specs.Traces.{bit}
 use Rattle.tip_element.proofs.Bits.{bit_power, bit_above, bit_zero, bits_same}
@@ -18,8 +18,8 @@ digit_or (suc zero) (suc (suc b)) h k = absurd (omega arith)
 digit_or (suc (suc a)) b h k = absurd (omega arith)
 
 -- A bit of an or is set where either bit is.
-bit_or : (x y n : ℕ) → bit (bit_or x y) n ≡ (bit y n || bit x n)
-bit_or x y n =
+bit_of_or : (x y n : ℕ) → bit (bit_or x y) n ≡ (bit y n || bit x n)
+bit_of_or x y n =
     let a = x / 2 ^ n in
     let b = y / 2 ^ n in
     ap (λ z. eqb (z % 2) 1) (or_shr x y n) ∙ ap (λ z. eqb z 1) (or_mod a b 1)
@@ -27,7 +27,7 @@ bit_or x y n =
 
 -- One bit more.
 pub bit_more : (x y k n : ℕ) → y ≡ 2 ^ k → bit (bit_or x y) n ≡ (eqb n k || bit x n)
-bit_more x y k n e = ap (λ z. bit (bit_or x z) n) e ∙ bit_or x (2 ^ k) n ∙ ap (λ b. b || bit x n) (bit_power k n)
+bit_more x y k n e = ap (λ z. bit (bit_or x z) n) e ∙ bit_of_or x (2 ^ k) n ∙ ap (λ b. b || bit x n) (bit_power k n)
 
 -- The bits from k on are those of the quotient by 2 ^ k.
 bit_from : (x k n : ℕ) → bit (x / 2 ^ k) n ≡ bit x (k + n)

@@ -1,4 +1,6 @@
 //! Sets of columns, as masks.
+#![tactic(auto)]
+
 ghost use Rattle.std.specs.Prelude.{◌≡◌, ℕ, ◌+◌, ◌/◌, ◌^◌, ◌<◌, ◌≤◌, true, false, ◌||◌, MatchOption, ◌==◌, count_ones};
 ghost use Rattle.tip_element.specs.Laws.{Exactly};
 ghost use Rattle.tip_columns.specs.Sets.{in_set, size};

@@ -1,7 +1,6 @@
 -- The comparison of all chains: when a parity is right, and how many are.
-use Rattle.std.proofs.Common.{◌≡◌, ℕ, zero, suc, ◌+◌, ◌-◌, ◌*◌, ◌<◌, ◌≤◌, Bool, true, false, List, sym, refl, ap, ◌∙◌, subst, ⊎_elim, arith}
-use Rattle.std.proofs.lemmas.Bool.{cases_lt, true≢false}
-use Rattle.tip_code.specs.Encoding.{Encodes}
+use Rattle.std.proofs.Common.{◌≡◌, ℕ, zero, suc, ◌+◌, ◌<◌, ◌≤◌, Bool, true, false, List, sym, refl, ap, ◌∙◌, subst, ⊎_elim, arith}
+use Rattle.std.proofs.lemmas.Bool.{cases_lt}
 use Rattle.tip_code.specs.Geometry.{places_in}
 use Rattle.tip_code.specs.Primes.{listed}
 use Rattle.tip_code.specs.Stripe.{parity_column, stripe_of, chains_in, Numbered}
@@ -10,7 +9,7 @@ use Rattle.tip_code.specs.declared.chain.Direction.TheVariants.{Row, Diagonal, A
 use Rattle.tip_code.proofs.Numbers.{numbering}
 use Rattle.tip_element.specs.Counts.{count_below}
 use Rattle.tip_element.specs.Laws.{Exactly}
-use Rattle.tip_element.specs.Traces.{has, members, no_trace, trace_join, Just, Alike}
+use Rattle.tip_element.specs.Traces.{has, members, no_trace, Alike}
 use Rattle.tip_element.specs.declared.trace.Trace.{Trace}
 use Rattle.tip_element.proofs.Sets.{count_on, count_off}
 use Rattle.tip_cover.specs.Cover.{Cover, Found, Right, Compared}

@@ -1,7 +1,7 @@
 -- The set of places that a parity covers, place by place.
-use Rattle.std.proofs.Common.{◌≡◌, ℕ, zero, suc, ◌+◌, ◌-◌, ◌*◌, ◌<◌, ◌≤◌, Bool, true, false, cond, not, eqb, ltb, leb, ◌⊎◌, List, length, get_or, set, sym, refl, ap, ◌∙◌, subst, ⊎_elim, add-one, arith, get_or-set_other, get_or-set_same}
+use Rattle.std.proofs.Common.{◌≡◌, ℕ, ◌+◌, ◌-◌, ◌<◌, ◌≤◌, true, false, eqb, leb, List, length, get_or, set, sym, refl, ap, ◌∙◌, subst, ⊎_elim, arith, get_or-set_other, get_or-set_same}
 use Rattle.std.proofs.lemmas.Nat.{mul-le}
-use Rattle.std.proofs.lemmas.Bool.{cases_eq, eq-eqb, ne_eqb, cond_both, leb-true, leb-false}
+use Rattle.std.proofs.lemmas.Bool.{cases_eq, eq-eqb, ne_eqb, leb-true, leb-false}
 use Rattle.tip_element.specs.Counts.{count_below}
 use Rattle.tip_cover.specs.Cover.{Cover, CoverStop, too_large, wrong_length}
 use Rattle.tip_code.specs.Geometry.{places_in}
@@ -9,7 +9,7 @@ use Rattle.tip_code.specs.Places.{Place}
 use Rattle.tip_code.specs.Primes.{listed}
 use Rattle.tip_code.specs.Stops.{number, First}
 use Rattle.tip_code.specs.Stripe.{covers}
-use Rattle.tip_element.specs.Traces.{bit, has, one_of, no_trace, trace_join, Just}
+use Rattle.tip_element.specs.Traces.{has, one_of, no_trace, Just}
 use Rattle.tip_code.specs.declared.chain.Direction.{Direction}
 use Rattle.tip_code.specs.declared.stop.Stop.{Stop}
 use Rattle.tip_code.specs.declared.stop.Stop.TheVariants as stop

@@ -1,5 +1,7 @@
 //! Checks the encoding against the rules of the stripe: where each place holds its own number as a trace, each parity, a join
 //! of traces, has to hold just the places that it covers.
+#![tactic(auto)]
+
 ghost use Rattle.std.specs.Prelude.{◌≡◌, ℕ, ◌+◌, ◌-◌, ◌*◌, ◌<◌, ◌≤◌, length, IfOk, MatchOption, MatchResult, nat_le};
 ghost use Rattle.tip_code.specs.Geometry.{prime_of, cells_in, places_in};
 ghost use Rattle.tip_code.specs.Places.{Place};

@@ -1,4 +1,4 @@
-use Rattle.std.proofs.Common.{◌≡◌, ℕ, ◌+◌, ◌<◌, ◌≤◌, sym, ap, ◌∙◌, subst, arith}
+use Rattle.std.proofs.Common.{◌≡◌, ℕ, ◌+◌, sym, ◌∙◌, subst, arith}
 use Rattle.tip_code.specs.Geometry.{prime_of, places_in}
 use Rattle.tip_code.proofs.Sizes.{valid}
 use Rattle.tip_cover.proofs.Covering.{Covered, places_traced, covered_same, covered_more, covered_all}

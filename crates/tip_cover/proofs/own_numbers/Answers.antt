@@ -1,4 +1,4 @@
-use Rattle.std.proofs.Common.{◌≡◌, ◌<◌, ◌≤◌, length, sym, refl, ◌∙◌, arith}
+use Rattle.std.proofs.Common.{◌≡◌, ◌<◌, length, sym, refl, ◌∙◌, arith}
 use Rattle.std.proofs.lemmas.Bool.{leb-true}
 use Rattle.tip_code.specs.Geometry.{prime_of, places_in}
 use Rattle.tip_cover.proofs.Covering.{places_traced, own_more, cover_prime, cover_length, cover_none}

@@ -1,6 +1,6 @@
 -- Where the words differ, the sets differ.
-use Rattle.std.proofs.Common.{ap, arith}
-use Rattle.std.proofs.lemmas.Bool.{both_ways, false≢true}
+use Rattle.std.proofs.Common.{◌&&◌, ap, ap₂, ◌∙◌, eq-eqb, arith}
+use Rattle.std.proofs.lemmas.Bool.{both_ways}
 use Rattle.tip_element.proofs.Sets.{trace_same}
 use Rattle.tip_cover.proofs.Finding.agrees.Goals as goal
 
@@ -11,5 +11,5 @@ returns-else-eq c =
       sound = λ e. absurd (both_ways c.eq.result c.if-eq.false e);
       whole = λ both.
           let same = trace_same f.found f.expected (omega arith) (omega arith) (omega arith) (omega arith) both.0 in
-          absurd (c.if-eq.ensures (λ d. false≢true (d.1 (ap (λ t. t.low) same))) (λ d. false≢true (d.1 (ap (λ t. t.high) same))));
+          c.eq.ensures ∙ ap₂ ◌&&◌ (eq-eqb _ _ (ap (λ t. t.low) same)) (eq-eqb _ _ (ap (λ t. t.high) same));
     }
