@@ -1,5 +1,5 @@
 -- Which columns are solved for: the first three that are lost, and no others are.
-use Rattle.std.proofs.Common.{◌≡◌, ℕ, ◌+◌, ◌<◌, ◌≤◌, Bool, true, false, ◌||◌, eqb, refl, ap, ◌∙◌, ⊎_elim, arith}
+use Rattle.std.proofs.Common.{◌≡◌, ℕ, ◌+◌, ◌<◌, ◌≤◌, Bool, true, false, ◌||◌, eqb, refl, ⊎_elim, arith}
 use Rattle.std.proofs.lemmas.Bool.{both_ways, eq-eqb, or_left, or_right, cases_eq, cases_lt}
 use Rattle.tip_element.specs.Counts.{count_below}
 use Rattle.tip_algebra.proofs.Counts.{Clear, four}

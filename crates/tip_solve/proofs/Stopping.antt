@@ -1,11 +1,11 @@
 -- Which stop solving gets.
-use Rattle.std.proofs.Common.{◌≡◌, ℕ, ◌+◌, ◌-◌, ◌*◌, ◌<◌, ◌≤◌, Bool, true, false, Ok, Err, Result, sym, refl, subst, arith, MatchResult}
+use Rattle.std.proofs.Common.{◌≡◌, ℕ, ◌<◌, ◌≤◌, Bool, true, false, Ok, Err, Result, sym, refl, subst, arith, MatchResult}
 use Rattle.tip_code.specs.Geometry.{cells_in}
 use Rattle.tip_code.specs.Stops.{number, First}
 use Rattle.tip_code.specs.declared.stop.Stop.{Stop}
 use Rattle.tip_code.specs.declared.stop.Stop.TheVariants as stop
 use Rattle.tip_columns.specs.Sets.{in_set, size}
-use Rattle.tip_solve.specs.Solving.{work_in, room_in, SolveStop, cells_length, too_short, no_column, too_many, Fitting}
+use Rattle.tip_solve.specs.Solving.{SolveStop, cells_length, too_short, no_column, too_many, Fitting}
 use Rattle.tip_columns.specs.declared.Columns.{Columns}
 
 module _ (p cells room least : ℕ) (lost : Columns) where

@@ -1,5 +1,5 @@
 -- What solving promises.
-use Rattle.std.specs.Prelude.{◌≡◌, ℕ, ◌+◌, ◌-◌, ◌*◌, ◌<◌, ◌≤◌, Bool, true, false, List, length, Ok, Err, Result, ◌≢◌, slice_index_or}
+use Rattle.std.specs.Prelude.{◌≡◌, ℕ, ◌+◌, ◌-◌, ◌*◌, ◌<◌, ◌≤◌, Bool, true, false, List, Ok, Err, Result, ◌≢◌, slice_index_or}
 use Rattle.tip_code.specs.Encoding.{Encoded}
 use Rattle.tip_code.specs.Geometry.{cells_in}
 use Rattle.tip_code.specs.Stops.{number}

@@ -1,4 +1,5 @@
 //! Solving lost columns: the whole stripe from any p - 2 of its columns.
+#![tactic(auto)]
 
 mod buffer;
 mod recover;

@@ -22,7 +22,7 @@ pub(crate) fn find_pair<E: Element>(
     x: &mut [E],
     y: &mut [E],
 )
-    requires prime_facts { PrimeFacts p × (first < last) × (last < p) }
+    requires columns { PrimeFacts p × (first < last) × (last < p) }
     requires sized { (length diagonals.now ≡ p) × (length antidiagonals.now ≡ p) × (length joins.old ≡ p) × (length x.old ≡ p) × (length y.old ≡ p) }
     ensures { (X Y : ℕ → E) → PairSums E.zero E.join p first last diagonals.now antidiagonals.now X Y → Holds E.zero p x.new X × Holds E.zero p y.new Y }
 {
@@ -47,7 +47,7 @@ pub(crate) fn find_middle<E: Element>(
     steps: &mut [E],
     m: &mut [E],
 )
-    requires prime_facts { PrimeFacts p × (at.first < at.middle) × (at.middle < at.last) × (at.last < p) }
+    requires columns { PrimeFacts p × (at.first < at.middle) × (at.middle < at.last) × (at.last < p) }
     requires sized { (length rows.now ≡ p) × (length diagonals.now ≡ p) × (length antidiagonals.now ≡ p) × (length joins.old ≡ p) × (length steps.old ≡ p) × (length m.old ≡ p) }
     ensures { (X M Y : ℕ → E) → TripleSums E.zero E.join p at.first at.middle at.last rows.now diagonals.now antidiagonals.now X M Y → Holds E.zero p m.new M }
 {
@@ -76,7 +76,7 @@ pub(crate) fn find_three<E: Element>(
     m: &mut [E],
     y: &mut [E],
 )
-    requires prime_facts { PrimeFacts p × (at.first < at.middle) × (at.middle < at.last) × (at.last < p) }
+    requires columns { PrimeFacts p × (at.first < at.middle) × (at.middle < at.last) × (at.last < p) }
     requires sized { (length rows.now ≡ p) × (length diagonals.old ≡ p) × (length antidiagonals.old ≡ p) × (length joins.old ≡ p) × (length x.old ≡ p) × (length m.old ≡ p) × (length y.old ≡ p) }
     ensures { (X M Y : ℕ → E) → TripleSums E.zero E.join p at.first at.middle at.last rows.now diagonals.old antidiagonals.old X M Y → Holds E.zero p x.new X × Holds E.zero p m.new M × Holds E.zero p y.new Y }
 {

@@ -1,4 +1,4 @@
-use Rattle.std.proofs.Common.{◌<◌, ◌≢◌, length, ◌∙◌, arith, get_or-set_other, get_or-set_same, below_more}
+use Rattle.std.proofs.Common.{◌<◌, length, ◌∙◌, arith, get_or-set_other, get_or-set_same, below_more}
 use Rattle.tip_solve.proofs.solve.clear_first.Goals as goal
 
 pub loop-i-preserved : goal.loop-i-preserved

@@ -1,4 +1,4 @@
-use Rattle.std.proofs.Common.{◌+◌, ◌<◌, ◌≤◌, arith}
+use Rattle.std.proofs.Common.{◌<◌, arith}
 use Rattle.tip_solve.proofs.Seeking.{seeks_one, seeks_two, seeks_three}
 use Rattle.tip_solve.proofs.sought.seek.Goals as goal
 

@@ -1,4 +1,4 @@
-use Rattle.std.proofs.Common.{◌≡◌, ◌+◌, ◌-◌, ◌%◌, ◌<◌, length, get_or, ap, ◌∙◌, ap₂, arith}
+use Rattle.std.proofs.Common.{◌≡◌, ◌+◌, ◌-◌, ◌<◌, length, get_or, ap, ◌∙◌, ap₂, arith}
 use Rattle.tip_code.specs.Stripe.{stripe_of}
 use Rattle.tip_algebra.specs.Unfolded.{unfolded}
 use Rattle.tip_algebra.proofs.Cyclic.{held-mod}

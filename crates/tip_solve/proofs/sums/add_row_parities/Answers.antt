@@ -1,4 +1,4 @@
-use Rattle.std.proofs.Common.{◌≡◌, ℕ, ◌-◌, ◌<◌, length, get_or, set, sym, ap, ◌∙◌, arith, length-set, get_or-set_other, get_or-set_same}
+use Rattle.std.proofs.Common.{◌≡◌, ◌-◌, ◌<◌, length, get_or, set, ap, ◌∙◌, arith, length-set, get_or-set_other, get_or-set_same}
 use Rattle.tip_code.specs.Stripe.{stripe_of}
 use Rattle.tip_algebra.proofs.Parts.{join_front}
 use Rattle.tip_solve.proofs.sums.add_row_parities.Goals as goal

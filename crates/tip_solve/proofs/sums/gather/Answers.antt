@@ -1,4 +1,4 @@
-use Rattle.std.proofs.Common.{◌≡◌, get_or, sym, ap, ◌∙◌, arith}
+use Rattle.std.proofs.Common.{get_or, sym, ap, ◌∙◌, arith}
 use Rattle.tip_code.specs.Stripe.{stripe_of}
 use Rattle.tip_solve.specs.Seeking.{sought}
 use Rattle.tip_algebra.proofs.Gathering.{known_none, known_more, known_skip, known_all}

@@ -1,4 +1,3 @@
-use Rattle.std.proofs.Common.{◌≡◌, ℕ, ◌+◌, ◌-◌, ◌<◌, length}
 use Rattle.tip_code.specs.Stripe.{stripe_of}
 use Rattle.tip_solve.specs.Seeking.{sought}
 use Rattle.tip_algebra.proofs.Gathering.{KnownBelow}

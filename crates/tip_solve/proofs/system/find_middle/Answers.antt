@@ -1,4 +1,4 @@
-use Rattle.std.proofs.Common.{◌≡◌, ℕ, ◌+◌, ◌-◌, ◌%◌, ◌<◌, length, get_or, ap, ◌∙◌, arith}
+use Rattle.std.proofs.Common.{◌≡◌, ◌+◌, ◌-◌, ◌%◌, length, get_or, ap, ◌∙◌, arith}
 use Rattle.std.proofs.lemmas.List.{get_or_read}
 use Rattle.tip_element.specs.Counts.{join_below}
 use Rattle.tip_algebra.proofs.Middle.{middle_found}
@@ -18,7 +18,7 @@ returns g c X M Y s =
     let m₀ = c.divide-2.new.quotient in
     let wide : length w₀ ≡ p = c.divide.auto.quotient ∙ c.requires.sized.4 in
     let long : length m₀ ≡ p = c.divide-2.auto.quotient ∙ c.requires.sized.5 in
-    middle_found e.laws p f j h c.requires.0.1 c.requires.0.2 c.requires.0.3 r d a X M Y s c.requires.0.0 c.join_turned-3.new.sum w₀ c.join_onto.new.elements m₀ c.join_onto-2.new.elements c.join_all-all.result c.index-m-p.result
+    middle_found e.laws p f j h c.requires.columns.1 c.requires.columns.2 c.requires.columns.3 r d a X M Y s c.requires.columns.0 c.join_turned-3.new.sum w₀ c.join_onto.new.elements m₀ c.join_onto-2.new.elements c.join_all-all.result c.index-m-p.result
     (λ i low. c.join_turned-3.ensures i low
     ∙ ap (λ x. e.join x (get_or a ((i + (p - h)) % p) e.zero)) (c.join_turned-2.ensures i low
     ∙ ap (λ x. e.join x (get_or d ((i + f) % p) e.zero)) (c.join_turned.ensures i low
@@ -27,5 +27,5 @@ returns g c X M Y s =
     (c.join_all-all.ensures ∙ ap (λ n. join_below e.zero e.join n (λ i. get_or w₀ i e.zero)) wide)
     (λ i low. c.join_onto.ensures i (omega arith))
     c.divide-2.ensures
-    (get_or_read m₀ (p - 1 - j) c.index-m-p.result (omega (arith, c.requires.0.2, c.requires.0.3)) c.index-m-p.is e.zero)
+    (get_or_read m₀ (p - 1 - j) c.index-m-p.result (omega (arith, c.requires.columns.2, c.requires.columns.3)) c.index-m-p.is e.zero)
     (λ i low. c.join_onto-2.ensures i (omega arith))

@@ -1,4 +1,4 @@
-use Rattle.std.proofs.Common.{◌≡◌, ◌+◌, ◌-◌, ◌*◌, ◌%◌, ◌<◌, length, get_or, set, sym, ap, ◌∙◌, zero-mul, arith, length-set, rules}
+use Rattle.std.proofs.Common.{◌≡◌, ◌+◌, ◌-◌, ◌*◌, ◌%◌, length, get_or, sym, ap, ◌∙◌, zero-mul, arith, length-set}
 use native.Mathlib.Nat.{zero-mod}
 use Rattle.std.proofs.lemmas.List.{get_or_read}
 use Rattle.tip_algebra.proofs.Walk.{next_place, walked_none, walked_more, walked_all}
@@ -14,7 +14,7 @@ loop-turn-preserved g c =
     let p = c.args.p in
     let u = c.args.step in
     let i = c.loop-turn.at in
-    let k = c.loop-turn.-turn in
+    let k = c.loop-turn._turn in
     let n = c.next_index-next.result in
     let en = c.next_index-next.ensures.value in
     let y = c.loop-turn.quotient in
@@ -22,7 +22,7 @@ loop-turn-preserved g c =
     let turn : k + 1 - 1 ≡ k = omega arith in
     let ry = get_or_read y i c.index-quotient-at.result (omega (arith, c.loop-turn.invariant.1)) c.index-quotient-at.is m.zero in
     let rz = get_or_read c.args.joins.now n c.index-joins-next.result (omega (arith, c.next_index-next.ensures.within, c.requires.3)) c.index-joins-next.is m.zero in
-    (en ∙ next_place p u k i c.loop-turn.auto.-turn c.loop-turn.invariant.0 ∙ ap (λ x. x * u % p) (sym turn), c.next_index-next.ensures.within, λ s steps. walked_more m.laws p u k i n c.args.joins.now y c.join.result s c.loop-turn.auto.-turn c.loop-turn.invariant.1 c.loop-turn.invariant.0 en (omega (arith, c.next_index-next.ensures.within)) (c.join.ensures ∙ ap (λ w. m.join w c.index-joins-next.result) ry ∙ ap (m.join (get_or y i m.zero)) rz) steps (c.loop-turn.invariant.2 s steps))
+    (en ∙ next_place p u k i c.loop-turn.auto._turn c.loop-turn.invariant.0 ∙ ap (λ x. x * u % p) (sym turn), c.next_index-next.ensures.within, λ s steps. walked_more m.laws p u k i n c.args.joins.now y c.join.result s c.loop-turn.auto._turn c.loop-turn.invariant.1 c.loop-turn.invariant.0 en (omega (arith, c.next_index-next.ensures.within)) (c.join.ensures ∙ ap (λ w. m.join w c.index-joins-next.result) ry ∙ ap (m.join (get_or y i m.zero)) rz) steps (c.loop-turn.invariant.2 s steps))
 
 pub returns : goal.returns
 returns g c s steps =
