@@ -1,4 +1,6 @@
 //! Encoding and solving for callers in C, which `bench/` times. A buffer is a pointer to its first element and a length.
+#![tactic(auto)]
+
 ghost use Rattle.std.specs.Prelude.{◌≡◌, MatchResult};
 ghost use Rattle.tip_code.specs.Stops.{number};
 

@@ -7,19 +7,18 @@ use tip_code::geometry::Geometry;
 use tip_code::stop::Stop;
 
 /// Holds the places to the data cells, and refuses the next place and the last number of all.
-fn check_places(rt: &impl Abort, geometry: Geometry, data: &[Cell]) -> Result<(), Fail> {
+fn check_places(rt: &impl Abort, geometry: Geometry, p: usize, data: &[Cell]) {
     for (place, cell) in data.iter().enumerate() {
-        assert_eq!(rt; geometry.locate(place), Ok(*cell), "{}", place);
+        assert_eq!(rt; geometry.locate(place), Ok(*cell), "p {p}, place {place}");
     }
-    assert_eq!(rt; geometry.locate(data.len()), Err(Stop::Place));
-    assert_eq!(rt; geometry.locate(usize::MAX), Err(Stop::Place));
-    Ok(())
+    assert_eq!(rt; geometry.locate(data.len()), Err(Stop::Place), "p {p}");
+    assert_eq!(rt; geometry.locate(usize::MAX), Err(Stop::Place), "p {p}");
 }
 
 #[test]
 fn places_run_row_by_row(rt: HostRuntime) -> Result<(), Fail> {
     for p in PRIMES {
-        check_places(&rt, Geometry::new(p, 1)?, &data_cells(rt.alloc(), p)?).note(p)?;
+        check_places(&rt, Geometry::new(p, 1)?, p, &data_cells(rt.alloc(), p)?);
     }
     assert_eq!(rt; Stop::Place.number(), 11);
     Ok(())

@@ -22,7 +22,7 @@ fn numbered(heap: Global, geometry: Geometry) -> Result<Vec<Trace>, Fail> {
 fn check_all(rt: &impl Abort, geometry: Geometry, cells: &[Trace]) -> Result<(), Fail> {
     for number in 0..geometry.chains() {
         let finding = inspect(geometry, cells, number)?.ok_or("no such chain")?;
-        assert!(rt; finding.agrees(), "{}", number);
+        assert!(rt; finding.agrees(), "{} cells, chain {number}", cells.len());
     }
     let tally = compare(geometry, cells)?;
     assert_eq!(rt; tally.compared, geometry.chains());
@@ -37,7 +37,7 @@ fn every_parity_agrees(rt: HostRuntime) -> Result<(), Fail> {
     for p in [3, 5, 7, 11] {
         let geometry = Geometry::new(p, 1)?;
         let cells = numbered(rt.alloc(), geometry)?;
-        check_all(&rt, geometry, &cells).note(p)?;
+        check_all(&rt, geometry, &cells)?;
     }
     Ok(())
 }
@@ -73,7 +73,11 @@ fn check_refused(
     let geometry = Geometry::new(p, 1)?;
     let stale = Trace::single(127).ok_or("no 127")?;
     let mut values = vec![in heap; stale; count]?;
-    assert_eq!(rt; own_numbers(geometry, &mut values), Err(stop));
+    assert_eq!(rt;
+        own_numbers(geometry, &mut values),
+        Err(stop),
+        "p {p}, {count} values"
+    );
     for value in &values {
         assert_eq!(rt; *value, stale);
     }
@@ -104,10 +108,10 @@ fn check_not_read(
 fn other_traces_are_refused(rt: HostRuntime) -> Result<(), Fail> {
     let heap = rt.alloc();
     for count in [0, 1, 11, 13, 23, 25] {
-        check_refused(&rt, heap, 5, count, Stop::Length).note(count)?;
+        check_refused(&rt, heap, 5, count, Stop::Length)?;
     }
     for count in [0, 132, 168] {
-        check_refused(&rt, heap, 13, count, Stop::Prime).note(count)?;
+        check_refused(&rt, heap, 13, count, Stop::Prime)?;
     }
     check_refused(&rt, heap, 31, 0, Stop::Prime)
 }

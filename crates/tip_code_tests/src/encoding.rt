@@ -34,18 +34,18 @@ pub fn encoded<E: Element + Clone>(
 }
 
 /// Holds a stripe buffer to the values wanted.
-fn check_same(rt: &impl Abort, got: &[Word], wanted: &[u64]) -> Result<(), Fail> {
+fn check_same(rt: &impl Abort, p: usize, got: &[Word], wanted: &[u64]) {
     for (index, value) in wanted.iter().enumerate() {
-        assert_eq!(rt; got.get(index), Some(&Word(*value)), "{}", index);
+        assert_eq!(rt; got.get(index), Some(&Word(*value)), "p {p}, index {index}");
     }
-    assert_eq!(rt; got.len(), wanted.len());
-    Ok(())
+    assert_eq!(rt; got.len(), wanted.len(), "p {p}");
 }
 
 /// Encodes these values and holds every cell to the rules.
 fn check_words(rt: &impl Abort, heap: Global, p: usize, values: &[u64]) -> Result<(), Fail> {
     let got = encoded(heap, p, &words(heap, values)?, Word(u64::MAX))?;
-    check_same(rt, &got, &expected_cells(heap, p, values)?).note(p)
+    check_same(rt, p, &got, &expected_cells(heap, p, values)?);
+    Ok(())
 }
 
 #[test]
@@ -54,7 +54,7 @@ fn words_at_every_prime(rt: HostRuntime) -> Result<(), Fail> {
     for p in PRIMES {
         let count = data_cells(heap, p)?.len();
         for seed in [0, 1, 77, u64::MAX] {
-            check_words(&rt, heap, p, &numbers(heap, seed, count)?).note(seed)?;
+            check_words(&rt, heap, p, &numbers(heap, seed, count)?)?;
         }
     }
     Ok(())
@@ -76,7 +76,7 @@ fn check_trace(rt: &impl Abort, p: usize, data: &[Cell], cell: Cell, got: Trace)
             Some(from) => reaches(p, *from, cell),
             None => false,
         };
-        assert_eq!(rt; got.has(number), wanted, "{cell:?}, place {number}");
+        assert_eq!(rt; got.has(number), wanted, "p {p}, {cell:?}, place {number}");
     }
 }
 
@@ -101,7 +101,7 @@ fn traces_at_the_small_primes(rt: HostRuntime) -> Result<(), Fail> {
     for p in [3, 5, 7, 11] {
         let data = data_cells(heap, p)?;
         let cells = encoded(heap, p, &numbered_traces(heap, data.len())?, stale)?;
-        check_traces(&rt, heap, p, &data, &cells).note(p)?;
+        check_traces(&rt, heap, p, &data, &cells)?;
     }
     Ok(())
 }
@@ -122,8 +122,16 @@ fn check_refused(
     let geometry = Geometry::new(p, 1)?;
     let mut after = pattern(heap, 2, cells)?;
     let answer = encode(geometry, &pattern(heap, 1, places)?, &mut after);
-    assert_eq!(rt; answer, Err(Stop::Length));
-    assert_eq!(rt; after, pattern(heap, 2, cells)?);
+    assert_eq!(rt;
+        answer,
+        Err(Stop::Length),
+        "p {p}, {places} places, {cells} cells"
+    );
+    assert_eq!(rt;
+        after,
+        pattern(heap, 2, cells)?,
+        "p {p}, {places} places, {cells} cells"
+    );
     Ok(())
 }
 
@@ -136,9 +144,7 @@ fn other_lengths_are_refused(rt: HostRuntime) -> Result<(), Fail> {
         for places in [0, 1, n.wrapping_sub(1), n, n.wrapping_add(1), m] {
             for cells in [0, 1, m.wrapping_sub(1), m, m.wrapping_add(1), n] {
                 if places != n || cells != m {
-                    check_refused(&rt, heap, p, places, cells).note(format_args!(
-                        "p {p}, {places} places, {cells} cells"
-                    ))?;
+                    check_refused(&rt, heap, p, places, cells)?;
                 }
             }
         }

@@ -1,4 +1,5 @@
 //! Tests of the array code on examples, against its rules as `reference` writes them out anew.
+#![tactic(auto)]
 
 #[cfg(test)]
 mod cells;

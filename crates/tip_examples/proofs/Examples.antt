@@ -1,12 +1,11 @@
 -- The examples, computed: every encoding is the one that `encoding` computes.
-use Rattle.std.proofs.Common.{◌≡◌, ℕ, suc, ◌+◌, ◌-◌, ◌<◌, ◌≤◌, Bool, true, ◌&&◌, ◌||◌, eqb, List, [], ◌∷◌, get_or, sym, refl, ap, ◌∙◌, ⊎_elim, arith, lit<, lit≤}
-use lib.Bits.{bit_xor, xor_zero_r}
+use Rattle.std.proofs.Common.{◌≡◌, ℕ, ◌+◌, ◌-◌, ◌<◌, ◌≤◌, Bool, true, ◌&&◌, ◌||◌, eqb, List, [], ◌∷◌, get_or, sym, refl, ap, ◌∙◌, ⊎_elim, arith, lit<, lit≤}
+use lib.Bits.{xor_zero_r}
 use Rattle.std.proofs.lemmas.Bool.{and_parts, or_cases, eqb-true}
-use Rattle.tip_element.specs.Counts.{join_below}
 use Rattle.tip_code.specs.Encoding.{Encoded, Encodes, encoding}
-use Rattle.tip_code.specs.Places.{Place, place_number}
+use Rattle.tip_code.specs.Places.{place_number}
 use Rattle.tip_code.specs.Primes.{listed}
-use Rattle.tip_code.specs.Stripe.{cell, data_cell, Concerned}
+use Rattle.tip_code.specs.Stripe.{data_cell}
 use Rattle.tip_element.specs.Words.{word, no_word, word_join}
 use Rattle.tip_element.specs.declared.word.Word.{Word}
 use Rattle.tip_code.proofs.Encodings.{one_encoding}

@@ -1,4 +1,6 @@
 //! Worked examples of the array code, as one proved table.
+#![tactic(auto)]
+
 ghost use Rattle.tip_examples.specs.Worked.{Worked};
 
 /// Does nothing: its contract is the table.

@@ -1,11 +1,10 @@
 -- Which stop a choice gets.
-use Rattle.std.proofs.Common.{◌≡◌, ℕ, ◌<◌, ◌≤◌, Some, Option, arith}
+use Rattle.std.proofs.Common.{ℕ, ◌<◌, Option, arith}
 use Rattle.tip_code.specs.Geometry.{SizeStop}
 use Rattle.tip_code.specs.Geometry as sized
 use Rattle.tip_code.specs.Stops.{number, First}
 use Rattle.tip_code.specs.declared.stop.Stop.{Stop}
 use Rattle.tip_code.specs.declared.stop.Stop.TheVariants as stop
-use Rattle.tip_columns.specs.Sets.{size}
 use Rattle.tip_columns.specs.declared.Columns.{Columns}
 use Rattle.tip_lose.specs.Choosing.{Within, Many, ChoiceStop, no_prime, no_column, too_many}
 

@@ -1,4 +1,5 @@
 //! Losing columns of a stripe and solving them, as `tipsolve` shows it.
+#![tactic(auto)]
 
 pub mod request;
 pub mod table;

@@ -59,7 +59,7 @@ fn other_words_are_refused(rt: HostRuntime) -> Result<(), Fail> {
         ("5 0 1 2 3", Refusal::Stopped(Stop::Lost)),
     ] {
         match asked(rt.alloc(), line)? {
-            Ok(_) => return Err(Fail::new("a wrong request was taken")).note(line),
+            Ok(_) => return Err(Fail::new(format_args!("a wrong request was taken: {line}"))),
             Err(refusal) => assert_eq!(rt; refusal, wanted, "{}", line),
         }
     }

@@ -1,4 +1,5 @@
 //! Tests of solving: against the encoder, against the rules as `reference` writes them out anew, and against an elimination.
+#![tactic(auto)]
 
 #[cfg(test)]
 mod columns;

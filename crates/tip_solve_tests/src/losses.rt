@@ -25,7 +25,8 @@ fn check_solved<E: Element + Clone>(
     let mut work = vec![in heap; stale; work_len(geometry)]?;
     solve(geometry, &mut cells, Columns(mask), &mut work)?;
     assert!(rt; all_zero(&work), "the work buffer is cleared");
-    check_same(rt, &cells, whole)
+    check_same(rt, mask, &cells, whole);
+    Ok(())
 }
 
 /// The same with stripe buffer and room in one work buffer.
@@ -45,7 +46,8 @@ fn check_beside<E: Element + Clone>(
     assert!(rt; whole.len() <= work.len());
     let (cells, room) = work.split_at_mut(whole.len());
     solve_beside(geometry, cells, Columns(mask), room)?;
-    check_same(rt, cells, whole)
+    check_same(rt, mask, cells, whole);
+    Ok(())
 }
 
 /// All sets of lost columns, for the stripe of these values.
@@ -59,10 +61,8 @@ fn check_sets<E: Element + Clone>(
     let cells = whole(rt, heap, geometry, values, stale)?;
     let p = geometry.prime();
     for mask in masks(heap, p)? {
-        let case = format_args!("p {p}, lost {mask:b}");
-        check_solved(rt, heap, geometry, &cells, mask, stale).note(case)?;
-        let case = format_args!("p {p}, lost {mask:b}, beside");
-        check_beside(rt, heap, geometry, &cells, mask, stale).note(case)?;
+        check_solved(rt, heap, geometry, &cells, mask, stale)?;
+        check_beside(rt, heap, geometry, &cells, mask, stale)?;
     }
     Ok(())
 }

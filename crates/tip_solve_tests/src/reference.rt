@@ -121,12 +121,15 @@ pub fn check_data<E: Element>(
 }
 
 /// Two runs are the same, element by element.
-pub fn check_same<E: Element>(rt: &impl Abort, got: &[E], wanted: &[E]) -> Result<(), Fail> {
-    assert_eq!(rt; got.len(), wanted.len());
+pub fn check_same<E: Element>(rt: &impl Abort, lost: u64, got: &[E], wanted: &[E]) {
+    let count = wanted.len();
+    assert_eq!(rt; got.len(), count, "lost {lost:b}");
     for (index, (a, b)) in got.iter().zip(wanted).enumerate() {
-        assert!(rt; a.join(*b).is_zero(), "{}", index);
+        assert!(rt;
+            a.join(*b).is_zero(),
+            "{count} elements, lost {lost:b}, index {index}"
+        );
     }
-    Ok(())
 }
 
 /// Random-looking numbers.

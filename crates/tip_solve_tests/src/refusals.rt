@@ -21,18 +21,12 @@ struct Call {
 }
 
 /// The first elements that solving uses are zero, and those beyond are as they were.
-fn check_cleared(
-    rt: &impl Abort,
-    before: &[Word],
-    after: &[Word],
-    used: usize,
-) -> Result<(), Fail> {
+fn check_cleared(rt: &impl Abort, before: &[Word], after: &[Word], used: usize) {
     assert_eq!(rt; before.len(), after.len());
     for (index, (a, b)) in before.iter().zip(after).enumerate() {
         let wanted = if index < used { 0 } else { a.0 };
-        assert_eq!(rt; b.0, wanted, "{}", index);
+        assert_eq!(rt; b.0, wanted, "{used} elements are used, index {index}");
     }
-    Ok(())
 }
 
 /// The call of `solve` gives the stop, leaves the stripe buffer, and clears the work buffer at stop 13 alone.
@@ -42,13 +36,20 @@ fn check_stop(rt: &impl Abort, heap: Global, call: Call, stop: Stop) -> Result<(
     let mut cells_after = cells.clone()?;
     let mut work_after = work.clone()?;
     let answer = solve(call.geometry, &mut cells_after, call.lost, &mut work_after);
-    assert_eq!(rt; answer, Err(stop));
-    check_same(rt, &cells_after, &cells)?;
+    assert_eq!(rt;
+        answer,
+        Err(stop),
+        "{} cells, {} of work",
+        call.cells,
+        call.work
+    );
+    check_same(rt, call.lost.0, &cells_after, &cells);
     if stop == Stop::Lost {
-        check_cleared(rt, &work, &work_after, work_len(call.geometry))
+        check_cleared(rt, &work, &work_after, work_len(call.geometry));
     } else {
-        check_same(rt, &work_after, &work)
+        check_same(rt, call.lost.0, &work_after, &work);
     }
+    Ok(())
 }
 
 /// The call of `solve_beside` gives the stop and leaves the stripe buffer.
@@ -57,8 +58,15 @@ fn check_stop_beside(rt: &impl Abort, heap: Global, call: Call, stop: Stop) -> R
     let mut cells_after = cells.clone()?;
     let mut room = words(heap, 2, call.work)?;
     let answer = solve_beside(call.geometry, &mut cells_after, call.lost, &mut room);
-    assert_eq!(rt; answer, Err(stop));
-    check_same(rt, &cells_after, &cells)
+    assert_eq!(rt;
+        answer,
+        Err(stop),
+        "{} cells, {} of room",
+        call.cells,
+        call.work
+    );
+    check_same(rt, call.lost.0, &cells_after, &cells);
+    Ok(())
 }
 
 /// The set of some columns that fit, and where asked a column above p and two more than three.
@@ -114,8 +122,8 @@ fn check_order(rt: &impl Abort, heap: Global, geometry: Geometry) -> Result<(), 
             work: length(room_len(geometry), wrong_work),
             ..call
         };
-        check_stop(rt, heap, call, stop).note(choice)?;
-        check_stop_beside(rt, heap, beside, stop).note(choice)?;
+        check_stop(rt, heap, call, stop)?;
+        check_stop_beside(rt, heap, beside, stop)?;
     }
     Ok(())
 }
@@ -123,7 +131,7 @@ fn check_order(rt: &impl Abort, heap: Global, geometry: Geometry) -> Result<(), 
 #[test]
 fn the_lowest_stop_is_given(rt: HostRuntime) -> Result<(), Fail> {
     for p in [5, 7, 11, 31] {
-        check_order(&rt, rt.alloc(), Geometry::new(p, 1)?).note(p)?;
+        check_order(&rt, rt.alloc(), Geometry::new(p, 1)?)?;
     }
     assert_eq!(rt; Stop::Length.number(), 3);
     assert_eq!(rt; Stop::Work.number(), 9);
@@ -147,7 +155,7 @@ fn other_lengths_are_refused(rt: HostRuntime) -> Result<(), Fail> {
                 lost,
                 work,
             };
-            check_stop(&rt, heap, call, Stop::Length).note(p)?;
+            check_stop(&rt, heap, call, Stop::Length)?;
         }
         for work in [0, 1, work.saturating_sub(1)] {
             let call = Call {
@@ -156,7 +164,7 @@ fn other_lengths_are_refused(rt: HostRuntime) -> Result<(), Fail> {
                 lost,
                 work,
             };
-            check_stop(&rt, heap, call, Stop::Work).note(p)?;
+            check_stop(&rt, heap, call, Stop::Work)?;
         }
     }
     Ok(())
@@ -180,7 +188,7 @@ fn columns_above_p_are_refused(rt: HostRuntime) -> Result<(), Fail> {
                 lost: Columns(lost),
                 work: work_len(geometry),
             };
-            check_stop(&rt, rt.alloc(), call, Stop::Column).note(p)?;
+            check_stop(&rt, rt.alloc(), call, Stop::Column)?;
         }
     }
     Ok(())
@@ -198,7 +206,7 @@ fn four_columns_are_refused(rt: HostRuntime) -> Result<(), Fail> {
                 lost: Columns(0b1111),
                 work: work_len(geometry).saturating_add(more),
             };
-            check_stop(&rt, rt.alloc(), call, Stop::Lost).note(p)?;
+            check_stop(&rt, rt.alloc(), call, Stop::Lost)?;
         }
     }
     Ok(())
@@ -215,7 +223,7 @@ fn accepted_calls_clear_their_work(rt: HostRuntime) -> Result<(), Fail> {
             let mut cells = words(heap, 1, geometry.cells())?;
             let mut after = before.clone()?;
             solve(geometry, &mut cells, Columns(lost), &mut after)?;
-            check_cleared(&rt, &before, &after, work_len(geometry)).note(p)?;
+            check_cleared(&rt, &before, &after, work_len(geometry));
         }
     }
     Ok(())

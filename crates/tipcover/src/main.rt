@@ -1,5 +1,7 @@
 // Shows that encoding follows the rules of the stripe: each place holds its own number, so each parity, a join of traces,
 // holds the places that it covers. The library compares; this prints.
+#![tactic(auto)]
+
 use anyhow::anyhow;
 use tip_code::encode::encode;
 use tip_code::geometry::Geometry;

@@ -1,5 +1,7 @@
 // Loses columns of a stripe and solves them. The arguments are p and up to three columns; the library reads them, loses the
 // columns and solves; this prints.
+#![tactic(auto)]
+
 use anyhow::anyhow;
 use std::env;
 use tip_code::geometry::Geometry;
