@@ -30,7 +30,7 @@ def declared(text):
     """The names that an .antt file declares, but for goals."""
     for line in QUIET_ANTT.sub("", text).split("\n"):
         line = line.strip()
-        if line.startswith("use ") or "mod " in line:
+        if line.startswith(("use ", "mod ", "pub mod ")):
             continue
         m = HEAD.match(line)
         if not m:

@@ -14,8 +14,8 @@ module _ {E : Type 0} (p : ℕ) (X : ℕ → E) (per : Per p X) where
   pub per_at : (m n a b : ℕ) → a + m * p ≡ b + n * p → X a ≡ X b
   per_at m n a b e = sym (per_many m a) ∙ ap X e ∙ per_many n b
 
-  pub per-mod : (a : ℕ) → X (a % p) ≡ X a
-  per-mod a = per_at (a / p) 0 (a % p) a (omega (arith, div-add-mod' a p))
+  pub per_mod : (a : ℕ) → X (a % p) ≡ X a
+  per_mod a = per_at (a / p) 0 (a % p) a (omega (arith, div-add-mod' a p))
 
   pub per_mod_add : (a k : ℕ) → X (a % p + k) ≡ X (a + k)
   per_mod_add a k = per_at (a / p) 0 (a % p + k) (a + k) (omega (arith, div-add-mod' a p))
@@ -34,8 +34,8 @@ turn_high p i turn start e l k h =
 
 -- a list that holds one turn, read at an index mod p
 module _ {E : Type 0} (none : E) (p : ℕ) (X : ℕ → E) (per : Per p X) (xs : List E) (holds : Holds none p xs X) (some : 0 < p) where
-  pub held-mod : (k : ℕ) → get_or xs (k % p) none ≡ X k
-  held-mod k = holds (k % p) (mod-lt k some) ∙ per-mod p X per k
+  pub held_mod : (k : ℕ) → get_or xs (k % p) none ≡ X k
+  held_mod k = holds (k % p) (mod-lt k some) ∙ per_mod p X per k
 
   pub held_mod_add : (k j : ℕ) → get_or xs ((k % p + j) % p) none ≡ X (k + j)
-  held_mod_add k j = ap (λ n. get_or xs n none) (mod-add-mod k p j) ∙ held-mod (k + j)
+  held_mod_add k j = ap (λ n. get_or xs n none) (mod-add-mod k p j) ∙ held_mod (k + j)

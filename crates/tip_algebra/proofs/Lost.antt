@@ -11,7 +11,7 @@ use Rattle.tip_algebra.specs.Known.{except, KnownSums}
 use Rattle.tip_algebra.specs.Unfolded.{unfolded, excess, at_last, unfolded_anti, folded}
 use Rattle.tip_algebra.specs.Unknown.{PairSums, TripleSums}
 use Rattle.tip_algebra.proofs.Group.{v, ◌⊕◌, ◌≐◌, solveBy}
-use Rattle.tip_algebra.proofs.Cyclic.{per-mod, per_mod_add}
+use Rattle.tip_algebra.proofs.Cyclic.{per_mod, per_mod_add}
 use Rattle.tip_algebra.proofs.Sums.{sum_take}
 use Rattle.tip_algebra.proofs.Rules.{mod_at, opposite_at, anti_apart, unfolded_per, unfolded_zero, at_last_top, at_last_off, at_last_even, anti_per, anti_off, folded_per, folded_zero, folded_last, rule_diagonal, rule_antidiagonal, rule_row, rule_last, rule_excess}
 
@@ -95,7 +95,7 @@ module _ {E : Type 0} {none : E} {join : E → E → E} (laws : Laws none join) 
       let m : i % p ≡ i = mod-eq_of_lt l in
       let q : opposite p i % p ≡ p - 2 - i = mod_at p 0 1 (opposite p i) (p - 2 - i) (omega arith) (omega arith) in
       ap (join (unfolded none p X c i))
-      (per-mod p (unfolded none p X c) (unfolded_per none p X c) (opposite p i) ∙ sym (anti_off laws p X c (opposite p i) (omega arith)))
+      (per_mod p (unfolded none p X c) (unfolded_per none p X c) (opposite p i) ∙ sym (anti_off laws p X c (opposite p i) (omega arith)))
 
   -- and its excess in an antidiagonal sum
   pub column_excess : (e : E) → e ≡ excess none join p X c → cond (eqb i (p - 1 - c)) e none ≡ at_last none p (excess none join p X c) (i + c)

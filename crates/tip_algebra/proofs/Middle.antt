@@ -7,7 +7,7 @@ use Rattle.tip_code.specs.Primes.{PrimeFacts}
 use Rattle.tip_algebra.specs.Cyclic.{Per, Holds, Steps, Divided}
 use Rattle.tip_algebra.specs.Unknown.{PairSums, TripleSums}
 use Rattle.tip_algebra.proofs.Constants.{fixed, at_zero}
-use Rattle.tip_algebra.proofs.Cyclic.{per_at, per-mod, per_mod_add, held-mod, held_mod_add}
+use Rattle.tip_algebra.proofs.Cyclic.{per_at, per_mod, per_mod_add, held_mod, held_mod_add}
 use Rattle.tip_algebra.proofs.Group.{v, ◌⊕◌, ◌≐◌, solve, solveBy}
 use Rattle.tip_algebra.proofs.Pair.{two_per}
 use Rattle.tip_algebra.proofs.Sums.{sum_join, sum_shift, sum_odd}
@@ -63,7 +63,7 @@ module _ {E : Type 0} {none : E} {join : E → E → E} (laws : Laws none join) 
       let rp : Per p R = λ m. ap (λ x. join (join x (M (m + p))) (Y (m + p))) (px m) ∙ ap (λ x. join (join (X m) x) (Y (m + p))) (pm m) ∙ ap (join (join (X m) (M m))) (py m) in
       let dp = three_per join p (p - f) (p - g) (p - h) X M Y px pm py in
       let ap' = three_per join p f g h X M Y px pm py in
-      let r₁ = held-mod none p R rp r s.row pos k in
+      let r₁ = held_mod none p R rp r s.row pos k in
       let r₂ = held_mod_add none p R rp r s.row pos k (p + f - h) in
       let d₁ = held_mod_add none p D dp d s.diagonal pos k f in
       let a₁ = held_mod_add none p A ap' a s.antidiagonal pos k (p - h) in
@@ -82,7 +82,7 @@ module _ {E : Type 0} {none : E} {join : E → E → E} (laws : Laws none join) 
       ∷ (v 10 ≐ v 4) ∷ (v 13 ≐ v 7) ∷ (v 12 ≐ v 9) ∷ (v 15 ≐ v 6)
       ∷ (v 5 ≐ v 16) ∷ (v 14 ≐ v 17) ∷ (v 11 ≐ v 18) ∷ (v 8 ≐ v 19) ∷ [])
       tt
-      (r₁, (r₂, (d₁, (a₁, (per_at p X px 0 1 _ _ (omega arith), (per_at p X px 0 0 _ _ (omega arith), (per_at p Y py 0 0 _ _ (omega arith), (per_at p Y py 0 1 _ _ (omega arith), (sym (per-mod p M pm k), (per_at p M pm 0 0 (j + g) (k + (p - (h - g))) (omega arith) ∙ sym (per_mod_add p M pm k (p - (h - g))), (per_at p M pm 0 1 _ _ (omega arith), (per_at p M pm 0 0 _ _ (omega arith), tt))))))))))))
+      (r₁, (r₂, (d₁, (a₁, (per_at p X px 0 1 _ _ (omega arith), (per_at p X px 0 0 _ _ (omega arith), (per_at p Y py 0 0 _ _ (omega arith), (per_at p Y py 0 1 _ _ (omega arith), (sym (per_mod p M pm k), (per_at p M pm 0 0 (j + g) (k + (p - (h - g))) (omega arith) ∙ sym (per_mod_add p M pm k (p - (h - g))), (per_at p M pm 0 1 _ _ (omega arith), (per_at p M pm 0 0 _ _ (omega arith), tt))))))))))))
 
   -- the middle column, from what each step of the code leaves
   pub middle_found : (prime : PrimeFacts p) (z w₀ w m₀ m : List E) (c k : E) → ((i : ℕ) → i < p → get_or z i none ≡ join (join (join (get_or r i none) (get_or r ((i + (p + f - h)) % p) none)) (get_or d ((i + f) % p) none)) (get_or a ((i + (p - h)) % p) none)) → ((t : ℕ → E) → Steps none join p (g - f) z t → Divided none join p w₀ t) → c ≡ join_below none join p (λ i. get_or w₀ i none) → ((i : ℕ) → i < p → get_or w i none ≡ join (get_or w₀ i none) c) → ((t : ℕ → E) → Steps none join p (h - g) w t → Divided none join p m₀ t) → k ≡ get_or m₀ (p - 1 - g) none → ((i : ℕ) → i < p → get_or m i none ≡ join (get_or m₀ i none) k) → Holds none p m M
@@ -102,9 +102,9 @@ module _ {E : Type 0} {none : E} {join : E → E → E} (laws : Laws none join) 
         last = s.last;
         last_zero = s.last_zero;
         diagonal = λ i low.
-            hd i low ∙ ap (λ x. join x (get_or m ((i + (p - g)) % p) none)) (s.diagonal i low) ∙ ap (join (join (join (X (i + (p - f))) (M (i + (p - g)))) (Y (i + (p - h))))) (held-mod none p M s.middle m hm pos (i + (p - g)))
+            hd i low ∙ ap (λ x. join x (get_or m ((i + (p - g)) % p) none)) (s.diagonal i low) ∙ ap (join (join (join (X (i + (p - f))) (M (i + (p - g)))) (Y (i + (p - h))))) (held_mod none p M s.middle m hm pos (i + (p - g)))
             ∙ solve laws (X (i + (p - f)) ∷ M (i + (p - g)) ∷ Y (i + (p - h)) ∷ []) (((v 0 ⊕ v 1) ⊕ v 2) ⊕ v 1) (v 0 ⊕ v 2) tt;
         antidiagonal = λ i low.
-            ha i low ∙ ap (λ x. join x (get_or m ((i + g) % p) none)) (s.antidiagonal i low) ∙ ap (join (join (join (X (i + f)) (M (i + g))) (Y (i + h)))) (held-mod none p M s.middle m hm pos (i + g))
+            ha i low ∙ ap (λ x. join x (get_or m ((i + g) % p) none)) (s.antidiagonal i low) ∙ ap (join (join (join (X (i + f)) (M (i + g))) (Y (i + h)))) (held_mod none p M s.middle m hm pos (i + g))
             ∙ solve laws (X (i + f) ∷ M (i + g) ∷ Y (i + h) ∷ []) (((v 0 ⊕ v 1) ⊕ v 2) ⊕ v 1) (v 0 ⊕ v 2) tt;
       }

@@ -7,7 +7,7 @@ use Rattle.tip_code.proofs.Remainders.{wrap_low, wrap_high}
 use Rattle.tip_algebra.specs.Cyclic.{Per, Holds, Steps, Divided}
 use Rattle.tip_algebra.specs.Unknown.{PairSums}
 use Rattle.tip_algebra.proofs.Constants.{fixed, at_zero}
-use Rattle.tip_algebra.proofs.Cyclic.{per_at, per-mod, held-mod, held_mod_add}
+use Rattle.tip_algebra.proofs.Cyclic.{per_at, per_mod, held_mod, held_mod_add}
 use Rattle.tip_algebra.proofs.Group.{v, ◌⊕◌, ◌≐◌, solveBy}
 
 -- twice a distance is no multiple of p, which is odd
@@ -48,7 +48,7 @@ module _ {E : Type 0} {none : E} {join : E → E → E} (laws : Laws none join) 
       ((v 0 ⊕ v 1) ⊕ (v 2 ⊕ v 3)) (v 4 ⊕ v 5)
       ((v 0 ≐ v 2) ∷ (v 1 ≐ v 5) ∷ (v 3 ≐ v 4) ∷ [])
       tt
-      (per_at p X px 0 1 _ _ (omega arith), (per_at p Y py 0 2 _ _ (omega arith), (per_at p Y py 0 1 (k + (p - h) + h) k (omega arith) ∙ sym (per-mod p Y py k), tt)))
+      (per_at p X px 0 1 _ _ (omega arith), (per_at p Y py 0 2 _ _ (omega arith), (per_at p Y py 0 1 (k + (p - h) + h) k (omega arith) ∙ sym (per_mod p Y py k), tt)))
       ∙ ap (λ m. join (Y m) (Y i)) (sym at)
 
   -- column f, where column h is known
@@ -58,8 +58,8 @@ module _ {E : Type 0} {none : E} {join : E → E → E} (laws : Laws none join) 
       let D = λ (m : ℕ). join (X (m + (p - f))) (Y (m + (p - h))) in
       let px = s.first in
       let py = s.last in
-      let dd = held-mod none p D (two_per join p (p - f) (p - h) X Y px py) d s.diagonal pos (i + f) in
-      let yy = held-mod none p Y py y hy pos (i + (p + f - h)) in
+      let dd = held_mod none p D (two_per join p (p - f) (p - h) X Y px py) d s.diagonal pos (i + f) in
+      let yy = held_mod none p Y py y hy pos (i + (p + f - h)) in
       hx i low ∙ ap (λ e. join e (get_or y ((i + (p + f - h)) % p) none)) dd ∙ ap (join (D (i + f))) yy
       ∙ solveBy laws
       (X (i + f + (p - f)) ∷ Y (i + f + (p - h)) ∷ Y (i + (p + f - h)) ∷ X i ∷ [])

@@ -13,7 +13,7 @@ use Rattle.tip_algebra.specs.Cyclic.{Per, opposite}
 use Rattle.tip_algebra.specs.Known.{except}
 use Rattle.tip_algebra.specs.Unfolded.{diagonal_parity, unfolded, excess, at_last, unfolded_anti, folded}
 use Rattle.tip_algebra.proofs.Group.{o, v, ◌⊕◌, ◌≐◌, same, solve, solveBy}
-use Rattle.tip_algebra.proofs.Cyclic.{per_at, per-mod, mod_per}
+use Rattle.tip_algebra.proofs.Cyclic.{per_at, per_mod, mod_per}
 use Rattle.tip_algebra.proofs.Sums.{sum_join, sum_zero, sum_take, sum_swap, sum_shift}
 
 -- the remainder, of a number that is apart from it by whole periods
@@ -175,7 +175,7 @@ module _ {E : Type 0} {none : E} {join : E → E → E} (laws : Laws none join) 
       let m : opposite p i + (i % p) + 2 ≡ 2 * p = omega arith in
       ap (join (U (opposite p i)))
       (opposite_at p (unfolded_anti none join p X c) (anti_per none join p X c) pos 2 (opposite p i) (i % p) m
-      ∙ per-mod p (unfolded_anti none join p X c) (anti_per none join p X c) i)
+      ∙ per_mod p (unfolded_anti none join p X c) (anti_per none join p X c) i)
       ∙ solveBy laws (U (opposite p i) ∷ U i ∷ L (opposite p i) ∷ L i ∷ []) (v 0 ⊕ (v 1 ⊕ v 3)) (v 1 ⊕ (v 0 ⊕ v 2)) ((v 2 ≐ v 3) ∷ []) tt
       (at_last_even none p pos (excess none join p X c) i, tt)
 

@@ -61,7 +61,7 @@ module _ {E : Type 0} {none : E} {join : E → E → E} (laws : Laws none join) 
       solve laws (a ∷ f 0 ∷ []) (v 0) (v 1 ⊕ (v 1 ⊕ v 0)) tt ∙ ap (join (f 0)) h
       ∙ solve laws (b ∷ f 0 ∷ []) (v 1 ⊕ (v 0 ⊕ v 1)) (v 0) tt
 
-  -- a join-below over a whole period, from any index on
+  -- a join_below over a whole period, from any index on
   pub sum_shift : (n k : ℕ) (f : ℕ → E) → ((i : ℕ) → f (i + n) ≡ f i) → join_below none join n (λ i. f (i + k)) ≡ join_below none join n f
   sum_shift n zero f per = join_same none join n (λ i. f (i + 0)) f (λ i _. ap f (add-zero i))
   sum_shift n (suc k) f per =

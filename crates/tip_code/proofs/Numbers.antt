@@ -29,7 +29,7 @@ column_at p r k = skipped (skipped k (min (r + 1) (p - 1 - r))) (max (r + 1) (p 
 abbrev full : ℕ → Bool
 full p = all_below (p - 1) (λ r. eqb (left p r p) (p - 2))
 
--- column-at finds the data cell with k to its left
+-- column_at finds the data cell with k to its left
 abbrev finds : ℕ → Bool
 finds p = all_below (p - 1) (λ r. all_below (p - 2) (λ k. data_cell p r (column_at p r k) && eqb (left p r (column_at p r k)) k))
 

@@ -20,15 +20,19 @@ fn numbered(heap: Global, geometry: Geometry) -> Result<Vec<Trace>, Fail> {
 
 /// Every chain of the stripe agrees, and there is none past the last.
 fn check_all(rt: &impl Abort, geometry: Geometry, cells: &[Trace]) -> Result<(), Fail> {
+    let p = geometry.prime();
     for number in 0..geometry.chains() {
         let finding = inspect(geometry, cells, number)?.ok_or("no such chain")?;
-        assert!(rt; finding.agrees(), "{} cells, chain {number}", cells.len());
+        assert!(rt; finding.agrees(), "p {p}, chain {number}");
     }
     let tally = compare(geometry, cells)?;
-    assert_eq!(rt; tally.compared, geometry.chains());
-    assert_eq!(rt; tally.agreed, geometry.chains());
-    assert!(rt; inspect(geometry, cells, geometry.chains())?.is_none());
-    assert!(rt; inspect(geometry, cells, usize::MAX)?.is_none());
+    assert_eq!(rt; tally.compared, geometry.chains(), "p {p}");
+    assert_eq!(rt; tally.agreed, geometry.chains(), "p {p}");
+    assert!(rt;
+        inspect(geometry, cells, geometry.chains())?.is_none(),
+        "p {p}"
+    );
+    assert!(rt; inspect(geometry, cells, usize::MAX)?.is_none(), "p {p}");
     Ok(())
 }
 
@@ -79,7 +83,7 @@ fn check_refused(
         "p {p}, {count} values"
     );
     for value in &values {
-        assert_eq!(rt; *value, stale);
+        assert_eq!(rt; *value, stale, "p {p}, {count} values");
     }
     check_not_read(rt, geometry, &values, stop)
 }
@@ -91,14 +95,15 @@ fn check_not_read(
     cells: &[Trace],
     stop: Stop,
 ) -> Result<(), Fail> {
+    let count = cells.len();
     match compare(geometry, cells) {
         Ok(_) => return Err(Fail::new("a buffer of another length was compared")),
-        Err(found) => assert_eq!(rt; found, stop),
+        Err(found) => assert_eq!(rt; found, stop, "{count} cells compared"),
     }
     match inspect(geometry, cells, 0) {
         Ok(_) => Err(Fail::new("a buffer of another length was inspected")),
         Err(found) => {
-            assert_eq!(rt; found, stop);
+            assert_eq!(rt; found, stop, "{count} cells inspected");
             Ok(())
         },
     }

@@ -34,17 +34,28 @@ pub fn encoded<E: Element + Clone>(
 }
 
 /// Holds a stripe buffer to the values wanted.
-fn check_same(rt: &impl Abort, p: usize, got: &[Word], wanted: &[u64]) {
+fn check_same(rt: &impl Abort, p: usize, seed: u64, got: &[Word], wanted: &[u64]) {
     for (index, value) in wanted.iter().enumerate() {
-        assert_eq!(rt; got.get(index), Some(&Word(*value)), "p {p}, index {index}");
+        let cell = got.get(index);
+        assert_eq!(rt;
+            cell,
+            Some(&Word(*value)),
+            "p {p}, seed {seed}, index {index}"
+        );
     }
-    assert_eq!(rt; got.len(), wanted.len(), "p {p}");
+    assert_eq!(rt; got.len(), wanted.len(), "p {p}, seed {seed}");
 }
 
 /// Encodes these values and holds every cell to the rules.
-fn check_words(rt: &impl Abort, heap: Global, p: usize, values: &[u64]) -> Result<(), Fail> {
+fn check_words(
+    rt: &impl Abort,
+    heap: Global,
+    p: usize,
+    seed: u64,
+    values: &[u64],
+) -> Result<(), Fail> {
     let got = encoded(heap, p, &words(heap, values)?, Word(u64::MAX))?;
-    check_same(rt, p, &got, &expected_cells(heap, p, values)?);
+    check_same(rt, p, seed, &got, &expected_cells(heap, p, values)?);
     Ok(())
 }
 
@@ -54,7 +65,7 @@ fn words_at_every_prime(rt: HostRuntime) -> Result<(), Fail> {
     for p in PRIMES {
         let count = data_cells(heap, p)?.len();
         for seed in [0, 1, 77, u64::MAX] {
-            check_words(&rt, heap, p, &numbers(heap, seed, count)?)?;
+            check_words(&rt, heap, p, seed, &numbers(heap, seed, count)?)?;
         }
     }
     Ok(())

@@ -7,7 +7,7 @@ use Rattle.tip_element.specs.Laws.{Exactly}
 use Rattle.tip_element.specs.Traces.{bit}
 use Rattle.tip_element.proofs.Bits.{bit_power, bit_above, bit_zero, bits_same}
 
--- The or of two digits, for `bit-or`.
+-- The or of two digits, for `bit_of_or`.
 digit_or : (a b : ℕ) → a < 2 → b < 2 → eqb (bit_or a b) 1 ≡ (eqb b 1 || eqb a 1)
 digit_or zero zero h k = refl
 digit_or zero (suc zero) h k = refl

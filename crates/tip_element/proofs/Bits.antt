@@ -10,7 +10,7 @@ use Rattle.std.proofs.lemmas.Bool.Decides.{nat_tests}
 use Rattle.tip_element.specs.Counts.{count_below}
 use Rattle.tip_element.specs.Traces.{bit, one_of}
 
--- The exclusive or of two digits, for `bit-xor`.
+-- The exclusive or of two digits, for `bit_of_xor`.
 digit_xor : (a b : ℕ) → a < 2 → b < 2 → eqb (bit_xor a b) 1 ≡ one_of (eqb a 1) (eqb b 1)
 digit_xor zero b h k = refl
 digit_xor (suc zero) zero h k = refl

@@ -23,9 +23,13 @@ fn check_solved<E: Element + Clone>(
 ) -> Result<(), Fail> {
     let mut cells = spoiled(heap, geometry.prime(), whole, mask, stale)?;
     let mut work = vec![in heap; stale; work_len(geometry)]?;
-    solve(geometry, &mut cells, Columns(mask), &mut work)?;
-    assert!(rt; all_zero(&work), "the work buffer is cleared");
-    check_same(rt, mask, &cells, whole);
+    let answer = solve(geometry, &mut cells, Columns(mask), &mut work);
+    assert_eq!(rt; answer, Ok(()), "solve, lost {mask:b}");
+    assert!(rt;
+        all_zero(&work),
+        "the work buffer is cleared, lost {mask:b}"
+    );
+    check_same(rt, "solve", mask, &cells, whole);
     Ok(())
 }
 
@@ -42,11 +46,12 @@ fn check_beside<E: Element + Clone>(
     for _ in whole.len()..work_len(geometry) {
         work.push(stale)?;
     }
-    assert_eq!(rt; work.len(), work_len(geometry));
+    assert_eq!(rt; work.len(), work_len(geometry), "lost {mask:b}");
     assert!(rt; whole.len() <= work.len());
     let (cells, room) = work.split_at_mut(whole.len());
-    solve_beside(geometry, cells, Columns(mask), room)?;
-    check_same(rt, mask, cells, whole);
+    let answer = solve_beside(geometry, cells, Columns(mask), room);
+    assert_eq!(rt; answer, Ok(()), "solve_beside, lost {mask:b}");
+    check_same(rt, "solve_beside", mask, cells, whole);
     Ok(())
 }
 

@@ -120,14 +120,15 @@ pub fn check_data<E: Element>(
     Ok(())
 }
 
-/// Two runs are the same, element by element.
-pub fn check_same<E: Element>(rt: &impl Abort, lost: u64, got: &[E], wanted: &[E]) {
+/// Two runs are the same, element by element; where they are not, the call and the lost columns are named.
+pub fn check_same<E: Element>(rt: &impl Abort, call: &str, lost: u64, got: &[E], wanted: &[E]) {
     let count = wanted.len();
-    assert_eq!(rt; got.len(), count, "lost {lost:b}");
+    assert_eq!(rt; got.len(), count, "{call}, lost {lost:b}");
     for (index, (a, b)) in got.iter().zip(wanted).enumerate() {
+        let is_same = a.join(*b).is_zero();
         assert!(rt;
-            a.join(*b).is_zero(),
-            "{count} elements, lost {lost:b}, index {index}"
+            is_same,
+            "{call}, lost {lost:b}, {count} elements, index {index}"
         );
     }
 }

@@ -36,18 +36,17 @@ fn check_stop(rt: &impl Abort, heap: Global, call: Call, stop: Stop) -> Result<(
     let mut cells_after = cells.clone()?;
     let mut work_after = work.clone()?;
     let answer = solve(call.geometry, &mut cells_after, call.lost, &mut work_after);
+    let (lost, count, long) = (call.lost.0, call.cells, call.work);
     assert_eq!(rt;
         answer,
         Err(stop),
-        "{} cells, {} of work",
-        call.cells,
-        call.work
+        "lost {lost:b}, {count} cells, {long} of work"
     );
-    check_same(rt, call.lost.0, &cells_after, &cells);
+    check_same(rt, "solve", lost, &cells_after, &cells);
     if stop == Stop::Lost {
         check_cleared(rt, &work, &work_after, work_len(call.geometry));
     } else {
-        check_same(rt, call.lost.0, &work_after, &work);
+        check_same(rt, "solve", lost, &work_after, &work);
     }
     Ok(())
 }
@@ -58,14 +57,13 @@ fn check_stop_beside(rt: &impl Abort, heap: Global, call: Call, stop: Stop) -> R
     let mut cells_after = cells.clone()?;
     let mut room = words(heap, 2, call.work)?;
     let answer = solve_beside(call.geometry, &mut cells_after, call.lost, &mut room);
+    let (lost, count, long) = (call.lost.0, call.cells, call.work);
     assert_eq!(rt;
         answer,
         Err(stop),
-        "{} cells, {} of room",
-        call.cells,
-        call.work
+        "lost {lost:b}, {count} cells, {long} of room"
     );
-    check_same(rt, call.lost.0, &cells_after, &cells);
+    check_same(rt, "solve_beside", lost, &cells_after, &cells);
     Ok(())
 }
 
