@@ -14,6 +14,7 @@ use Rattle.tip_code.proofs.Sizes.{size_prime, size_stripes, size_none}
 use Rattle.tip_code.proofs.Tables.{all_below, all_at}
 use Rattle.tip_solve.proofs.Stopping.{stops_work, stops_none}
 use Rattle.tip_examples.specs.Worked.{holding, EncodingOf, Rows, one_to_twelve, place_four_cleared, Worked}
+use Rattle.tip_examples.specs.WorkedSolving.{WorkedSolving}
 
 -- what the cells of an encoding of f at p are, where the test of their numbers passes
 module _ (p : ℕ) (t : listed p ≡ true) (f : ℕ → Word) where
@@ -101,6 +102,10 @@ worked = record {
   nine = λ n. size_prime 9 n refl;
   most = size_none 5 4096 refl refl;
   too_many = size_stripes 5 4097 refl refl;
+}
+
+pub worked_solving : WorkedSolving
+worked_solving = record {
   work_short = λ lost. stops_work 5 24 143 144 lost refl (lit< tt);
   work_enough = λ lost within few. stops_none 5 24 144 144 lost (record { sized = refl; enough = lit≤ tt; columns = within }) few;
 }

@@ -2,8 +2,10 @@
 #![tactic(auto)]
 
 ghost use Rattle.tip_examples.specs.Worked.{Worked};
+ghost use Rattle.tip_examples.specs.WorkedSolving.{WorkedSolving};
 
 /// Does nothing: its contract is the table.
 pub fn worked_examples()
-    ensures { Worked }
+    ensures code { Worked }
+    ensures solving { WorkedSolving }
 {}
