@@ -1,11 +1,14 @@
 //! Sets of columns, as masks.
 #![tactic(auto)]
 
-ghost use Rattle.std.specs.Prelude.{◌≡◌, ℕ, ◌+◌, ◌/◌, ◌^◌, ◌<◌, ◌≤◌, true, false, ◌||◌, MatchOption, ◌==◌, count_ones};
+ghost use Rattle.std.specs.Prelude.{◌≡◌, ℕ, ◌+◌, ◌/◌, ◌^◌, ◌<◌, ◌≤◌, true, ◌||◌, MatchOption, ◌==◌, count_ones};
 ghost use Rattle.tip_element.specs.Laws.{Exactly};
 ghost use Rattle.tip_columns.specs.Sets.{in_set, size};
 
-/// A set of columns of a stripe: bit c of the word stands for column c.
+use tip_element::word::has_bit;
+
+/// A set of columns of a stripe: bit c of the word stands for column c. No kind of element and one word, where a `Trace` is one and
+/// two: a type for both would loop over words in each method.
 #[derive(Clone, Copy, PartialEq, Eq, Debug)]
 pub struct Columns(pub u64);
 
@@ -25,7 +28,7 @@ fn above(word: u64, last: usize) -> u64
     word >> (last + 1)
 }
 
-/// How many bits of a word are set.
+/// How many bits of a word are set. A function of its own, so that an edit of the count is refused at its line.
 fn ones_of(word: u64) -> u32
     ensures { result ≡ count_ones word }
 {
@@ -33,26 +36,26 @@ fn ones_of(word: u64) -> u32
 }
 
 impl Columns {
+    /// The set with one column more, for which there is a bit.
+    fn and(self, column: usize) -> Columns
+        requires { column < 64 }
+        ensures { (n : ℕ) → in_set result n ≡ (n == column || in_set self n) }
+    {
+        Columns(self.0 | bit_of(column))
+    }
+
     /// The set with one column more, or nothing where the column is above 63, for which there is no bit.
     pub fn with(self, column: usize) -> Option<Columns>
         ensures { MatchOption result (64 ≤ column) (λ s. (column < 64) × ((n : ℕ) → in_set s n ≡ (n == column || in_set self n))) }
     {
-        if column < 64 {
-            Some(Columns(self.0 | bit_of(column)))
-        } else {
-            None
-        }
+        (column < 64).then(|| self.and(column))
     }
 
     /// Whether the column is in the set.
     pub fn has(self, column: usize) -> bool
         ensures { result ≡ in_set self column }
     {
-        if column < 64 {
-            (self.0 >> column) % 2 == 1
-        } else {
-            false
-        }
+        has_bit(self.0, column)
     }
 
     /// How many columns are in the set.

@@ -1,5 +1,5 @@
 // Runs of elements: plain loops that the compiler can vectorise.
-ghost use Rattle.std.specs.Prelude.{◌≡◌, ℕ, ◌<◌, length, slice_index_or};
+ghost use Rattle.std.specs.Prelude.{◌≡◌, length, slice_index_or};
 ghost use Rattle.tip_element.specs.Counts.{join_below};
 ghost use Rattle.tip_element.specs.Laws.{Exactly};
 ghost use Rattle.tip_element.specs.Slices.{AllZero, Joined};
@@ -11,6 +11,7 @@ pub fn join_all<E: Element>(elements: &[E]) -> E
     ensures { result ≡ join_below E.zero E.join (length elements.now) (λ i. slice_index_or elements.now i E.zero) }
 {
     let mut all = E::zero();
+    // A plain loop and no `fold`, as all joins and zero tests over runs are here: the compiler vectorises it.
     for element in elements {
         all = all.join(*element);
     }
@@ -21,6 +22,7 @@ pub fn join_all<E: Element>(elements: &[E]) -> E
 pub fn join_each<E: Element>(elements: &mut [E], others: &[E])
     ensures { Joined E.zero E.join elements.old others.now elements.new }
 {
+    // By index: of a slice that a `zip` over its `iter_mut` has written, nothing can be proved but its length.
     for i in 0..elements.len().min(others.len()) {
         elements[i] = elements[i].join(others[i]);
     }
@@ -30,6 +32,7 @@ pub fn join_each<E: Element>(elements: &mut [E], others: &[E])
 pub fn all_zero<E: Element>(elements: &[E]) -> bool
     ensures { Exactly result (AllZero E.zero elements.now) }
 {
+    // A plain loop and no `all`, as in `join_all`.
     for element in elements {
         if !element.is_zero() {
             return false;
@@ -42,7 +45,7 @@ pub fn all_zero<E: Element>(elements: &[E]) -> bool
 pub fn clear<E: Element>(elements: &mut [E])
     ensures { AllZero E.zero elements.new }
 {
-    for i in 0..elements.len() {
-        elements[i] = E::zero();
+    for element in elements.iter_mut() {
+        *element = E::zero();
     }
 }

@@ -1,12 +1,12 @@
 // Traces: sets of small numbers.
-ghost use Rattle.std.specs.Prelude.{◌≡◌, ℕ, ◌+◌, ◌<◌, ◌≤◌, true, MatchOption, count_ones};
-ghost use Rattle.tip_element.specs.Laws.{Exactly};
+ghost use Rattle.std.specs.Prelude.{◌≡◌, ℕ, ◌+◌, ◌<◌, ◌≤◌, MatchOption, count_ones};
 ghost use Rattle.tip_element.specs.Traces.{no_trace, trace_join, trace_laws, has, members, one_of, Just};
 
 use super::element::Element;
+use super::word::has_bit;
 use std::fmt;
 
-/// A set of numbers from 0 to 127, kept as the bits of two words.
+/// A set of numbers from 0 to 127, kept as the bits of two words: its numbers are to be counted as the ones in two words of 64.
 /// A join keeps each number that is in just one of the two sets.
 #[derive(Clone, Copy, PartialEq, Eq, Debug)]
 pub struct Trace {
@@ -47,7 +47,7 @@ fn difference(a: Trace, b: Trace) -> Trace
     }
 }
 
-/// How many bits of the two words are set.
+/// How many bits of the two words are set. A function of its own, so that an edit of the count is refused at its line.
 fn ones_of(low: u64, high: u64) -> u32
     ensures { result ≡ count_ones low + count_ones high }
 {
@@ -77,11 +77,7 @@ impl Trace {
     pub fn single(number: usize) -> Option<Trace>
         ensures { MatchOption result (128 ≤ number) (λ t. (number < 128) × Just number t) }
     {
-        if number < 128 {
-            Some(just(number))
-        } else {
-            None
-        }
+        (number < 128).then(|| just(number))
     }
 
     /// Whether the number is in the set.
@@ -89,11 +85,9 @@ impl Trace {
         ensures { result ≡ has self number }
     {
         if number < 64 {
-            (self.low >> number) % 2 == 1
-        } else if number < 128 {
-            (self.high >> (number - 64)) % 2 == 1
+            has_bit(self.low, number)
         } else {
-            false
+            has_bit(self.high, number - 64)
         }
     }
 
@@ -109,13 +103,12 @@ impl Trace {
 impl fmt::Display for Trace {
     fn fmt<W: fmt::Write>(&self, f: &mut fmt::Formatter<W>) -> fmt::Result {
         f.write_str("{")?;
-        let mut first = true;
-        for number in 0..128usize {
-            if self.has(number) {
-                let between = if first { "" } else { ", " };
-                write!(f, "{between}{number}")?;
-                first = false;
+        let members = (0..128usize).filter(|number| self.has(*number));
+        for (before, number) in members.enumerate() {
+            if before > 0 {
+                f.write_str(", ")?;
             }
+            write!(f, "{number}")?;
         }
         f.write_str("}")
     }

@@ -1,4 +1,6 @@
 // Words of 64 bits.
+ghost use Rattle.std.specs.Prelude.{◌≡◌};
+ghost use Rattle.tip_element.specs.Traces.{bit};
 ghost use Rattle.tip_element.specs.Words.{no_word, word_join, word_laws};
 
 use super::element::Element;
@@ -25,5 +27,16 @@ impl Element for Word {
 
     fn is_zero(self) -> bool {
         self.0 == 0
+    }
+}
+
+/// Whether this bit of a word is set. There are no bits from 64 on.
+pub fn has_bit(word: u64, index: usize) -> bool
+    ensures { result ≡ bit word index }
+{
+    if index < 64 {
+        (word >> index) % 2 == 1
+    } else {
+        false
     }
 }

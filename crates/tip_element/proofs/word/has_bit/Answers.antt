@@ -1,0 +1,6 @@
+use Rattle.std.proofs.Common.{sym, arith}
+use Rattle.tip_element.proofs.Bits.{bit_above}
+use Rattle.tip_element.proofs.word.has_bit.Goals as goal
+
+pub returns-else-index-lt64 : goal.returns-else-index-lt64
+returns-else-index-lt64 c = sym (bit_above 64 c.args.word c.args.index (omega arith) (omega arith))
