@@ -17,6 +17,7 @@ use Rattle.tip_algebra.specs.Decided.{Decided}
 use Rattle.tip_algebra.specs.Known.{except, KnownSums}
 use Rattle.tip_algebra.specs.Unfolded.{unfolded, excess, at_last, unfolded_anti, folded}
 use Rattle.tip_algebra.specs.Unknown.{PairSums, TripleSums}
+use Rattle.tip_algebra.proofs.Constants.{fixed, at_zero}
 use Rattle.tip_algebra.proofs.Counts.{TwoLost, ThreeLost, count_not, lost_columns}
 use Rattle.tip_algebra.proofs.Group.{v, ◌⊕◌, ◌≐◌, same, solveBy}
 use Rattle.tip_algebra.proofs.Lost.{two_rows, two_folded, two_plain, three_folded, three_plain}
@@ -124,17 +125,21 @@ module _ {E : Type 0} {none : E} {join : E → E → E} (laws : Laws none join) 
       walked_all laws p u (zeros none p) t prime h l
       (λ k _. zeros_at none p (k * u % p) ∙ sym (ap (λ x. join x (t 0)) (multiples laws p u t steps (omega arith) k) ∙ laws.cancel (t 0)))
 
+  zeros_from : (u : ℕ) → 0 < u → u < p → (k : ℕ) → k < p → (t : ℕ → E) → Steps none join p u (zeros none p) t → t k ≡ none → Holds none p (zeros none p) t
+  zeros_from u h l k low t steps e =
+      let z = zeros none p in
+      let q = zeros_divided u h l t steps in
+      fixed laws p z z none t q (sym (zeros_at none p k) ∙ at_zero laws p k z t low q e) (λ i _. sym (right laws (get_or z i none)))
+
   -- two unknown columns whose joins are zero
   pair_zero : (f h : ℕ) → f < h → h < p → (X Y : ℕ → E) → PairSums none join p f h (zeros none p) (zeros none p) X Y → Holds none p (zeros none p) X × Holds none p (zeros none p) Y
   pair_zero f h fh hp X Y s =
       let z = zeros none p in
       let u = (h - f + (h - f)) % p in
       let two = zeros_two laws p in
-      pair_found laws p f h fh hp z z X Y s z z z z u none refl
+      pair_found laws p f h fh hp z z X Y s z z z u refl
       (λ i _. two i ((i + (p + f + f - h)) % p) ((i + (p - h)) % p))
-      (zeros_divided u (doubled p (h - f) u (omega arith) (omega arith) prime.odd refl) (mod-lt (h - f + (h - f)) (omega arith)))
-      (sym (zeros_at none p (p - 1 - h)))
-      (λ i _. sym (right laws (get_or z i none)))
+      (zeros_from u (doubled p (h - f) u (omega arith) (omega arith) prime.odd refl) (mod-lt (h - f + (h - f)) (omega arith)) (p - 1 - h) (omega arith))
       (λ i _. two i ((i + f) % p) ((i + (p + f - h)) % p))
 
   -- and three
@@ -144,14 +149,12 @@ module _ {E : Type 0} {none : E} {join : E → E → E} (laws : Laws none join) 
       let at = zeros_at none p in
       let two = zeros_two laws p in
       let both : (i j : ℕ) → join (get_or z i none) (get_or z j none) ≡ none = λ i j. joins_none laws (at i) (at j) in
-      let held = middle_found laws p f g h fg gh hp z z z X M Y s prime z z z z z none none
+      let held = middle_found laws p f g h fg gh hp z z z X M Y s prime z z z z none
       (λ i _. at i ∙ sym (joins_none laws (joins_none laws (both i ((i + (p + f - h)) % p)) (at ((i + f) % p))) (at ((i + (p - h)) % p))))
       (zeros_divided (g - f) (omega arith) (omega arith))
       (sym (sum_zero laws p (λ i. get_or z i none) (λ i _. at i)))
       (λ i _. sym (right laws (get_or z i none)))
-      (zeros_divided (h - g) (omega arith) (omega arith))
-      (sym (at (p - 1 - g)))
-      (λ i _. sym (right laws (get_or z i none))) in
+      (zeros_from (h - g) (omega arith) (omega arith) (p - 1 - g) (omega arith)) in
       let ends = pair_zero f h (omega arith) hp X Y
       (pair_left laws p f g h fg gh hp z z z X M Y s z z z held (λ i _. two i i ((i + (p - g)) % p)) (λ i _. two i i ((i + g) % p))) in
       (ends.0, held, ends.1)

@@ -1,9 +1,8 @@
 -- Sums over the known columns, one column more at a time.
-use Rattle.std.proofs.Common.{◌≡◌, ℕ, ◌+◌, ◌-◌, ◌<◌, Bool, true, false, List, length, get_or, sym, ap, ◌∙◌, arith}
+use Rattle.std.proofs.Common.{◌≡◌, ℕ, ◌+◌, ◌-◌, ◌<◌, Bool, true, false, List, get_or, sym, ap, ◌∙◌}
 use Rattle.std.proofs.lemmas.Bool.{cond-true, cond-false}
 use Rattle.tip_element.specs.Counts.{join_below}
 use Rattle.tip_element.specs.Laws.{Laws}
-use Rattle.tip_element.specs.Slices.{AllZero}
 use Rattle.tip_element.proofs.Joins.{join_more, join_skip}
 use Rattle.tip_algebra.specs.Known.{except, KnownSums}
 use Rattle.tip_algebra.specs.Unfolded.{unfolded, unfolded_anti, excess}
@@ -16,14 +15,6 @@ pub record KnownBelow {E : Type 0} (none : E) (join : E → E → E) (p n : ℕ)
   pub excesses : e ≡ join_below none join n (except none t (λ c. excess none join p X c))
 
 module _ {E : Type 0} {none : E} {join : E → E → E} (laws : Laws none join) (p : ℕ) (t : ℕ → Bool) (X : ℕ → ℕ → E) where
-  pub known_none : (d a r : List E) (e : E) → length d ≡ p → length a ≡ p → length r ≡ p → AllZero none d → AllZero none a → AllZero none r → e ≡ none → KnownBelow none join p 0 t X d a r e
-  known_none d a r e ld la lr zd za zr ze = record {
-    diagonal = λ i h. zd i (omega arith);
-    antidiagonal = λ i h. za i (omega arith);
-    row = λ i h. zr i (omega arith);
-    excesses = ze;
-  }
-
   -- one known column more
   pub known_more : (n : ℕ) (d a r d' a' r' : List E) (e x e' : E) → t n ≡ false → KnownBelow none join p n t X d a r e → ((i : ℕ) → i < p → get_or d' i none ≡ join (get_or d i none) (unfolded none p X n (i + (p - n)))) → ((i : ℕ) → i < p → get_or a' i none ≡ join (get_or a i none) (unfolded_anti none join p X n (i + n))) → ((i : ℕ) → i < p → get_or r' i none ≡ join (get_or r i none) (unfolded none p X n i)) → e' ≡ join e x → x ≡ excess none join p X n → KnownBelow none join p (n + 1) t X d' a' r' e'
   known_more n d a r d' a' r' e x e' off k hd ha hr he hx = record {

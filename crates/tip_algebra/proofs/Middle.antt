@@ -6,7 +6,7 @@ use Rattle.tip_element.proofs.Joins.{join_same}
 use Rattle.tip_code.specs.Primes.{PrimeFacts}
 use Rattle.tip_algebra.specs.Cyclic.{Per, Holds, Steps, Divided}
 use Rattle.tip_algebra.specs.Unknown.{PairSums, TripleSums}
-use Rattle.tip_algebra.proofs.Constants.{fixed, at_zero}
+use Rattle.tip_algebra.proofs.Constants.{fixed}
 use Rattle.tip_algebra.proofs.Cyclic.{per_at, per_mod, per_mod_add, held_mod, held_mod_add}
 use Rattle.tip_algebra.proofs.Group.{v, ◌⊕◌, ◌≐◌, solve, solveBy}
 use Rattle.tip_algebra.proofs.Pair.{two_per}
@@ -85,13 +85,12 @@ module _ {E : Type 0} {none : E} {join : E → E → E} (laws : Laws none join) 
       (r₁, (r₂, (d₁, (a₁, (per_at p X px 0 1 _ _ (omega arith), (per_at p X px 0 0 _ _ (omega arith), (per_at p Y py 0 0 _ _ (omega arith), (per_at p Y py 0 1 _ _ (omega arith), (sym (per_mod p M pm k), (per_at p M pm 0 0 (j + g) (k + (p - (h - g))) (omega arith) ∙ sym (per_mod_add p M pm k (p - (h - g))), (per_at p M pm 0 1 _ _ (omega arith), (per_at p M pm 0 0 _ _ (omega arith), tt))))))))))))
 
   -- the middle column, from what each step of the code leaves
-  pub middle_found : (prime : PrimeFacts p) (z w₀ w m₀ m : List E) (c k : E) → ((i : ℕ) → i < p → get_or z i none ≡ join (join (join (get_or r i none) (get_or r ((i + (p + f - h)) % p) none)) (get_or d ((i + f) % p) none)) (get_or a ((i + (p - h)) % p) none)) → ((t : ℕ → E) → Steps none join p (g - f) z t → Divided none join p w₀ t) → c ≡ join_below none join p (λ i. get_or w₀ i none) → ((i : ℕ) → i < p → get_or w i none ≡ join (get_or w₀ i none) c) → ((t : ℕ → E) → Steps none join p (h - g) w t → Divided none join p m₀ t) → k ≡ get_or m₀ (p - 1 - g) none → ((i : ℕ) → i < p → get_or m i none ≡ join (get_or m₀ i none) k) → Holds none p m M
-  middle_found prime z w₀ w m₀ m c k hz first ce hw second ke hm =
+  pub middle_found : (prime : PrimeFacts p) (z w₀ w m : List E) (c : E) → ((i : ℕ) → i < p → get_or z i none ≡ join (join (join (get_or r i none) (get_or r ((i + (p + f - h)) % p) none)) (get_or d ((i + f) % p) none)) (get_or a ((i + (p - h)) % p) none)) → ((t : ℕ → E) → Steps none join p (g - f) z t → Divided none join p w₀ t) → c ≡ join_below none join p (λ i. get_or w₀ i none) → ((i : ℕ) → i < p → get_or w i none ≡ join (get_or w₀ i none) c) → ((t : ℕ → E) → Steps none join p (h - g) w t → t (p - 1 - g) ≡ none → Holds none p m t) → Holds none p m M
+  middle_found prime z w₀ w m c hz first ce hw second =
       let W = stepped join p (h - g) M in
       let d₁ = first W (middle_steps z hz) in
       let held = fixed laws p w₀ w c W d₁ (ce ∙ constant laws p M s.middle (h - g) (omega arith) w₀ prime.odd d₁) hw in
-      let d₂ = second M (stepped_steps laws p M s.middle (h - g) (omega arith) w held) in
-      fixed laws p m₀ m k M d₂ (ke ∙ at_zero laws p (p - 1 - g) m₀ M (omega arith) d₂ s.middle_zero) hm
+      second M (stepped_steps laws p M s.middle (h - g) (omega arith) w held) s.middle_zero
 
   -- with it joined into the diagonals and antidiagonals, two unknown columns are left
   pub pair_left : (m d' a' : List E) → Holds none p m M → ((i : ℕ) → i < p → get_or d' i none ≡ join (get_or d i none) (get_or m ((i + (p - g)) % p) none)) → ((i : ℕ) → i < p → get_or a' i none ≡ join (get_or a i none) (get_or m ((i + g) % p) none)) → PairSums none join p f h d' a' X Y

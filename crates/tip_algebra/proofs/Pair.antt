@@ -4,9 +4,8 @@ use native.Mathlib.Nat.{add-mod-mod}
 use Rattle.std.proofs.lemmas.Bool.{cases_lt}
 use Rattle.tip_element.specs.Laws.{Laws}
 use Rattle.tip_code.proofs.Remainders.{wrap_low, wrap_high}
-use Rattle.tip_algebra.specs.Cyclic.{Per, Holds, Steps, Divided}
+use Rattle.tip_algebra.specs.Cyclic.{Per, Holds, Steps}
 use Rattle.tip_algebra.specs.Unknown.{PairSums}
-use Rattle.tip_algebra.proofs.Constants.{fixed, at_zero}
 use Rattle.tip_algebra.proofs.Cyclic.{per_at, per_mod, held_mod, held_mod_add}
 use Rattle.tip_algebra.proofs.Group.{v, ◌⊕◌, ◌≐◌, solveBy}
 
@@ -69,8 +68,7 @@ module _ {E : Type 0} {none : E} {join : E → E → E} (laws : Laws none join) 
       (per_at p X px 0 1 _ _ (omega arith), (per_at p Y py 0 0 _ _ (omega arith), tt))
 
   -- both columns, from what each step of the code leaves
-  pub pair_found : (z y₀ y x : List E) (u : ℕ) (c : E) → u ≡ (h - f + (h - f)) % p → ((i : ℕ) → i < p → get_or z i none ≡ join (get_or d ((i + (p + f + f - h)) % p) none) (get_or a ((i + (p - h)) % p) none)) → ((t : ℕ → E) → Steps none join p u z t → Divided none join p y₀ t) → c ≡ get_or y₀ (p - 1 - h) none → ((i : ℕ) → i < p → get_or y i none ≡ join (get_or y₀ i none) c) → ((i : ℕ) → i < p → get_or x i none ≡ join (get_or d ((i + f) % p) none) (get_or y ((i + (p + f - h)) % p) none)) → Holds none p x X × Holds none p y Y
-  pair_found z y₀ y x u c eu hz divided ce hy hx =
-      let q = divided Y (pair_steps z u eu hz) in
-      let held = fixed laws p y₀ y c Y q (ce ∙ at_zero laws p (p - 1 - h) y₀ Y (omega arith) q s.last_zero) hy in
+  pub pair_found : (z y x : List E) (u : ℕ) → u ≡ (h - f + (h - f)) % p → ((i : ℕ) → i < p → get_or z i none ≡ join (get_or d ((i + (p + f + f - h)) % p) none) (get_or a ((i + (p - h)) % p) none)) → ((t : ℕ → E) → Steps none join p u z t → t (p - 1 - h) ≡ none → Holds none p y t) → ((i : ℕ) → i < p → get_or x i none ≡ join (get_or d ((i + f) % p) none) (get_or y ((i + (p + f - h)) % p) none)) → Holds none p x X × Holds none p y Y
+  pair_found z y x u eu hz divided hx =
+      let held = divided Y (pair_steps z u eu hz) s.last_zero in
       (pair_first y x held hx, held)

@@ -3,9 +3,7 @@ use Rattle.std.proofs.Common.{◌≡◌, ℕ, ◌+◌, ◌-◌, ◌%◌, ◌<◌
 use Rattle.std.proofs.lemmas.Bool.{cases_lt}
 use borrow.Rule.Slice.PartMut.{put_mid, post_of}
 use Rattle.std.proofs.lemmas.List.{take_at, get_or_append_left, get_or-append_right, get_or-take, get_or-drop, length-take, length-drop, length-append}
-use Rattle.tip_element.specs.Counts.{join_below}
 use Rattle.tip_element.specs.Slices.{Joined}
-use Rattle.tip_element.proofs.Joins.{join_same}
 use Rattle.tip_algebra.proofs.Cyclic.{turn_low, turn_high}
 
 module _ {E : Type 0} (d : E) (cut k : ℕ) (first rest second : List E) (len : length first ≡ cut) where
@@ -69,10 +67,3 @@ module _ {E : Type 0} (d : E) (p turn start : ℕ) (e : start ≡ turn % p) (low
       (part_at d n 0 j column (omega arith)
       ∙ ap (λ q. get_or column q d) (let s : 0 + j ≡ i + start - p = omega arith in s ∙ sym (turn_high p i turn start e low h (omega arith)))))
       (cases_lt i (p - start))
-
--- the join of the first n elements of a list
-pub join_front : {E : Type 0} (none : E) (join : E → E → E) (xs : List E) (n k : ℕ) → k ≡ n → n ≤ length xs → (f : ℕ → E) → ((i : ℕ) → i < n → get_or xs i none ≡ f i) → join_below none join (length (take k (drop 0 xs))) (λ i. get_or (take k (drop 0 xs)) i none) ≡ join_below none join n f
-join_front none join xs n k e h f held =
-    let long : length (take k (drop 0 xs)) ≡ n = part_long k 0 xs (omega arith) ∙ e in
-    ap (λ m. join_below none join m (λ i. get_or (take k (drop 0 xs)) i none)) long
-    ∙ join_same none join n _ f (λ i l. part_at none k 0 i xs (omega arith) ∙ ap (λ m. get_or xs m none) (let s : 0 + i ≡ i = omega arith in s) ∙ held i l)

@@ -1,25 +1,14 @@
 -- Unfolding a column in a list, and folding it back.
-use Rattle.std.proofs.Common.{◌≡◌, ℕ, ◌+◌, ◌-◌, ◌%◌, ◌<◌, eqb, List, [], ◌∷◌, length, get_or, set, sym, ap, ◌∙◌, ap₂, ⊎_elim, mod-eq_of_lt, arith, length-set, get_or-set_other, get_or-set_same}
+use Rattle.std.proofs.Common.{◌≡◌, ℕ, ◌+◌, ◌-◌, ◌<◌, eqb, List, [], ◌∷◌, length, get_or, set, sym, ap, ◌∙◌, ap₂, ⊎_elim, mod-eq_of_lt, arith, length-set, get_or-set_other, get_or-set_same}
 use Rattle.std.proofs.lemmas.Bool.{cases_eq, eq-eqb, cond-true}
 use Rattle.tip_element.specs.Laws.{Laws}
 use Rattle.tip_code.proofs.Cells.{data_from, data_not}
 use Rattle.tip_code.proofs.Data.{datum_in, datum_out}
-use Rattle.tip_algebra.specs.Cyclic.{Holds, opposite}
+use Rattle.tip_algebra.specs.Cyclic.{Holds}
 use Rattle.tip_algebra.specs.Unfolded.{unfolded, excess}
 use Rattle.tip_algebra.proofs.Decided.{diagonal_top, excess_past}
 use Rattle.tip_algebra.proofs.Group.{v, ◌⊕◌, ◌≐◌, solveBy}
-use Rattle.tip_algebra.proofs.Rules.{mod_at, unfolded_top, unfolded_at, unfolded_zero}
-
--- the mirror image of an index: a row, and the last
-pub opposite_row : (p i : ℕ) → i < p - 1 → opposite p i % p ≡ p - 2 - i
-opposite_row p i h =
-    let m : i % p ≡ i = mod-eq_of_lt (let b : i < p = omega arith in b) in
-    mod_at p 0 1 (opposite p i) (p - 2 - i) (omega arith) (omega arith)
-
-pub opposite_last : (p : ℕ) → 0 < p → opposite p (p - 1) % p ≡ p - 1
-opposite_last p h =
-    let m : (p - 1) % p ≡ p - 1 = mod-eq_of_lt (let b : p - 1 < p = omega arith in b) in
-    mod_at p 0 0 (opposite p (p - 1)) (p - 1) (omega arith) (omega arith)
+use Rattle.tip_algebra.proofs.Rules.{unfolded_top, unfolded_at, unfolded_zero}
 
 module _ {E : Type 0} {none : E} {join : E → E → E} (laws : Laws none join) (p : ℕ) (X : ℕ → ℕ → E) (c : ℕ) (low : c < p) where
   -- a row that holds no parity of the column

@@ -20,3 +20,8 @@ Divided none join p y s = (i : ℕ) → i < p → slice_index_or y i none ≡ jo
 -- The index opposite to i: the reflection that swaps row r with row p - 2 - r and leaves p - 1.
 abbrev pub opposite : ℕ → ℕ → ℕ
 opposite p i = p + p - 2 - i % p
+
+-- zs is xs joined with the mirror image of ys, at every index of a turn.
+abbrev pub Mirrored : {E : Type 0} → E → (E → E → E) → ℕ → List E → List E → List E → Type 0
+Mirrored none join p xs ys zs =
+    (i : ℕ) → i < p → slice_index_or zs i none ≡ join (slice_index_or xs i none) (slice_index_or ys (opposite p i % p) none)

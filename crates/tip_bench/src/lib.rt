@@ -11,7 +11,7 @@ use tip_columns::Columns;
 use tip_element::word::Word;
 use tip_solve::solve::{solve, solve_beside};
 
-/// The number of a stop, or 0 for a call that was accepted.
+/// The number of a stop, or 0 for a call that was accepted: C has these and no `Result`.
 fn status(answer: Result<(), Stop>) -> u8
     ensures { MatchResult answer (λ _. result ≡ 0) (λ s. result ≡ number s) }
 {
@@ -24,19 +24,13 @@ fn status(answer: Result<(), Stop>) -> u8
 /// Encodes a stripe. Gives the number of the stop, or 0.
 #[unsafe(no_mangle)]
 pub extern "C" fn tip_encode(p: usize, values: &[Word], cells: &mut [Word]) -> u8 {
-    match Geometry::new(p, 1) {
-        Ok(geometry) => status(encode(geometry, values, cells)),
-        Err(stop) => stop.number(),
-    }
+    status(Geometry::new(p, 1).and_then(|geometry| encode(geometry, values, cells)))
 }
 
 /// Solves the lost columns, as a mask, of a stripe, and clears the work buffer. Gives the number of the stop, or 0.
 #[unsafe(no_mangle)]
 pub extern "C" fn tip_solve(p: usize, cells: &mut [Word], lost: u64, work: &mut [Word]) -> u8 {
-    match Geometry::new(p, 1) {
-        Ok(geometry) => status(solve(geometry, cells, Columns(lost), work)),
-        Err(stop) => stop.number(),
-    }
+    status(Geometry::new(p, 1).and_then(|geometry| solve(geometry, cells, Columns(lost), work)))
 }
 
 /// Solves with room that is not cleared. Gives the number of the stop, or 0.
@@ -47,8 +41,10 @@ pub extern "C" fn tip_solve_beside(
     lost: u64,
     room: &mut [Word],
 ) -> u8 {
-    match Geometry::new(p, 1) {
-        Ok(geometry) => status(solve_beside(geometry, cells, Columns(lost), room)),
-        Err(stop) => stop.number(),
-    }
+    status(Geometry::new(p, 1).and_then(|geometry| solve_beside(
+        geometry,
+        cells,
+        Columns(lost),
+        room,
+    )))
 }

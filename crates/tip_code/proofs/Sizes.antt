@@ -1,30 +1,16 @@
--- Every geometry is valid; which stop a geometry that is asked for gets.
-use Rattle.std.proofs.Common.{◌≡◌, ℕ, ◌<◌, ◌≤◌, min, true, false, ◌&&◌, leb, ⊎_elim, arith}
+-- What is known of a geometry's prime; which stop a geometry that is asked for gets.
+use Rattle.std.proofs.Common.{◌≡◌, ℕ, ◌<◌, ◌≤◌, true, false, ◌&&◌, leb, ⊎_elim, arith}
 use Rattle.std.proofs.lemmas.Bool.{both_ways, and_parts, and_cases, leb-true, leb-false}
-use Rattle.tip_code.specs.Geometry.{prime_of, stripes_of, SizeStop, no_prime, no_stripe, too_many}
-use Rattle.tip_code.specs.Primes.{primes, listed, PrimeFacts}
+use Rattle.tip_code.specs.Geometry.{prime_of, SizeStop, no_prime, no_stripe, too_many}
+use Rattle.tip_code.specs.Primes.{listed, PrimeFacts}
 use Rattle.tip_code.specs.Stops.{number, First}
 use Rattle.tip_code.specs.declared.geometry.Geometry.{Geometry}
 use Rattle.tip_code.specs.declared.stop.Stop.{Stop}
 use Rattle.tip_code.specs.declared.stop.Stop.TheVariants as stop
-use Rattle.tip_code.proofs.Tables.{among_at, prime_facts}
-
--- what every geometry keeps
-pub record Valid (p n : ℕ) : Type 0 where
-  pub prime : listed p ≡ true
-  pub some : 1 ≤ n
-  pub most : n ≤ 4096
-
-pub valid : (g : Geometry) → Valid (prime_of g) (stripes_of g)
-unfolding prime_of
-valid g = record {
-  prime = among_at primes (min g.rank 9) (omega arith);
-  some = omega arith;
-  most = omega arith;
-}
+use Rattle.tip_code.proofs.Tables.{prime_facts}
 
 pub facts : (g : Geometry) → PrimeFacts (prime_of g)
-facts g = prime_facts (prime_of g) (valid g).prime
+facts g = prime_facts (prime_of g) g.prime.listed
 
 module _ (p n : ℕ) where
   pub size_prime : listed p ≡ false → First (SizeStop p n) stop.Prime

@@ -1,6 +1,6 @@
 -- Tests over ranges and over the table of primes: antt computes the test, these lemmas turn it into a fact at each entry.
-use Rattle.std.proofs.Common.{◌≡◌, ℕ, zero, suc, pred, ◌*◌, ◌%◌, ◌<◌, Bool, true, false, ◌&&◌, ◌||◌, eqb, leb, List, [], ◌∷◌, length, get_or, sym, refl, subst, ⊎_elim, not-suc-le-zero, arith}
-use Rattle.std.proofs.lemmas.Bool.{cases_eq, and_parts, or_cases, or_from, or_left, or_right, eqb-true, eq-eqb, ne_eqb, leb-true, true≢false}
+use Rattle.std.proofs.Common.{◌≡◌, ℕ, zero, suc, pred, ◌*◌, ◌%◌, ◌<◌, Bool, true, false, ◌&&◌, ◌||◌, eqb, leb, List, [], ◌∷◌, sym, refl, subst, ⊎_elim, not-suc-le-zero, arith}
+use Rattle.std.proofs.lemmas.Bool.{cases_eq, and_parts, or_cases, eqb-true, leb-true, true≢false}
 use Rattle.tip_code.specs.Primes.{primes, among, listed, PrimeFacts}
 
 -- the test passes at each number below n
@@ -40,18 +40,6 @@ each_at f (x ∷ xs) p t h =
 -- a test that passes over the whole table passes at each prime
 pub prime_at : (f : ℕ → Bool) → each f primes ≡ true → (p : ℕ) → listed p ≡ true → f p ≡ true
 prime_at f t p h = each_at f primes p t h
-
--- an entry of a list is among its numbers
-pub among_at : (xs : List ℕ) (k : ℕ) → k < length xs → among (get_or xs k 0) xs ≡ true
-among_at [] k h = absurd (not-suc-le-zero h)
-among_at (x ∷ xs) zero h = or_left (eqb x x) (among x xs) (eq-eqb x x refl)
-among_at (x ∷ xs) (suc k) h = or_right (eqb x (get_or xs k 0)) (among (get_or xs k 0) xs) (among_at xs k (omega arith))
-
--- and a number that is at no entry is not
-pub among_none : (p : ℕ) (xs : List ℕ) → ((k : ℕ) → k < length xs → get_or xs k 0 ≡ p → ⊥) → among p xs ≡ false
-among_none p [] h = refl
-among_none p (x ∷ xs) h =
-    or_from (eqb x p) (among p xs) (ne_eqb x p (h 0 (omega arith))) (among_none p xs (λ k l. h (suc k) (omega arith)))
 
 -- each step u from 1 to p - 1, each residue i: some multiple of u is i
 abbrev reaches : ℕ → Bool

@@ -1,3 +1,4 @@
+pub mod Buffer
 pub mod Encoding
 pub mod Geometry
 pub mod Places

@@ -1,14 +1,14 @@
 // The cells of a stripe, the lines through them and the chains.
-ghost use Rattle.std.specs.Prelude.{◌≡◌, ℕ, ◌+◌, ◌-◌, ◌*◌, ◌<◌, ◌≤◌, true, false, not, ◌&&◌, MatchOption, ◌==◌};
+ghost use Rattle.std.specs.Prelude.{◌≡◌, ◌+◌, ◌-◌, ◌*◌, ◌<◌, ◌≤◌, true, false, not, ◌&&◌, MatchOption, ◌==◌};
 ghost use Rattle.tip_code.specs.Geometry.{prime_of};
-ghost use Rattle.tip_code.specs.Primes.{listed};
 ghost use Rattle.tip_code.specs.Stripe.{parity_cell, parity_column, data_cell, line_of, crossing, covers, cell_index, Stands, Lines, chains_in, Numbered, Concerned};
-ghost use Rattle.tip_code.specs.declared.chain.Direction.TheVariants.{Row, Diagonal, Antidiagonal};
 
 use super::geometry::Geometry;
+use super::prime::Prime;
 use std::fmt;
 
-/// A cell of a stripe: its row, from 0 to p - 2, and its column, from 0 to p.
+/// A cell of a stripe: its row, from 0 to p - 2, and its column, from 0 to p. Callers may write any numbers, so what is below p is
+/// said where it matters, and not here; it is said alike of single rows, columns and lines, which are plain numbers of loops.
 #[derive(Clone, Copy, PartialEq, Eq, Debug)]
 pub struct Cell {
     pub row: usize,
@@ -38,55 +38,61 @@ pub struct Parities {
     pub antidiagonal: Cell,
 }
 
-/// The direction and the number of the line, as diagonal 3.
-impl fmt::Display for Chain {
+impl fmt::Display for Direction {
     fn fmt<W: fmt::Write>(&self, f: &mut fmt::Formatter<W>) -> fmt::Result {
-        let direction = match self.direction {
+        f.write_str(match self {
             Direction::Row => "row",
             Direction::Diagonal => "diagonal",
             Direction::Antidiagonal => "antidiagonal",
-        };
-        let line = self.line;
-        write!(f, "{direction} {line}")
+        })
+    }
+}
+
+/// The direction and the number of the line, as diagonal 3.
+impl fmt::Display for Chain {
+    fn fmt<W: fmt::Write>(&self, f: &mut fmt::Formatter<W>) -> fmt::Result {
+        write!(f, "{} {}", self.direction, self.line)
     }
 }
 
 /// Whether a cell below column p is neither the parity of a diagonal nor that of an antidiagonal.
-fn off_parity(p: usize, row: usize, column: usize) -> bool
-    requires { row < p - 1 }
-    ensures { result ≡ (not (column == row + 1) && not (column == p - 1 - row)) }
+fn off_parity(prime: Prime, row: usize, column: usize) -> bool
+    requires { row < prime.number - 1 }
+    ensures { result ≡ (not (column == row + 1) && not (column == prime.number - 1 - row)) }
 {
+    let p = prime.number;
     (column != row + 1) & (column != p - 1 - row)
 }
 
 /// Whether the cell holds data.
-pub(crate) fn is_data(p: usize, row: usize, column: usize) -> bool
-    requires { 3 ≤ p }
-    ensures { result ≡ data_cell p row column }
+pub(crate) fn is_data(prime: Prime, row: usize, column: usize) -> bool
+    ensures { result ≡ data_cell prime.number row column }
 {
+    let p = prime.number;
     if row < p - 1 && column < p {
-        off_parity(p, row, column)
+        off_parity(prime, row, column)
     } else {
         false
     }
 }
 
 /// Where a cell stands in a stripe buffer.
-pub(crate) fn index_of(p: usize, row: usize, column: usize) -> usize
-    requires { (3 ≤ p) × (p ≤ 31) × (row < p - 1) × (column ≤ p) }
-    ensures value { result ≡ cell_index p row column }
-    ensures within { result < (p - 1) * (p + 1) }
+pub(crate) fn index_of(prime: Prime, row: usize, column: usize) -> usize
+    requires { (row < prime.number - 1) × (column ≤ prime.number) }
+    ensures value { result ≡ cell_index prime.number row column }
+    ensures within { result < (prime.number - 1) * (prime.number + 1) }
 {
-    column * (p - 1) + row
+    column * (prime.number - 1) + row
 }
 
 impl Direction {
     /// The column of the parity of a line, which stands in the row of the line's number.
-    pub(crate) fn parity_column(self, p: usize, line: usize) -> usize
-        requires { (3 ≤ p) × (p ≤ 31) × (line < p - 1) }
-        ensures value { result ≡ parity_column p self line }
-        ensures within { result ≤ p }
+    pub(crate) fn parity_column(self, prime: Prime, line: usize) -> usize
+        requires { line < prime.number - 1 }
+        ensures value { result ≡ parity_column prime.number self line }
+        ensures within { result ≤ prime.number }
     {
+        let p = prime.number;
         match self {
             Direction::Row => p,
             Direction::Diagonal => line + 1,
@@ -95,46 +101,47 @@ impl Direction {
     }
 
     /// The row in which a line crosses a column.
-    pub(crate) fn crossing(self, p: usize, line: usize, column: usize) -> usize
-        requires { (3 ≤ p) × (p ≤ 31) × (line < p - 1) × (column < p) }
-        ensures { result ≡ crossing p self line column }
+    pub(crate) fn crossing(self, prime: Prime, line: usize, column: usize) -> usize
+        requires { (line < prime.number - 1) × (column < prime.number) }
+        ensures { result ≡ crossing prime.number self line column }
     {
+        let p = prime.number;
         match self {
             Direction::Row => line,
-            Direction::Diagonal => (line + (p - column)) % p,
-            Direction::Antidiagonal => (line + column) % p,
+            Direction::Diagonal => prime.wrapped(line + (p - column)),
+            Direction::Antidiagonal => prime.wrapped(line + column),
         }
     }
 
     /// The line on which a cell lies.
-    pub(crate) fn line_of(self, p: usize, row: usize, column: usize) -> usize
-        requires { (3 ≤ p) × (p ≤ 31) × (row < p - 1) × (column < p) }
-        ensures { result ≡ line_of p self row column }
+    fn line_of(self, prime: Prime, row: usize, column: usize) -> usize
+        requires { (row < prime.number - 1) × (column < prime.number) }
+        ensures { result ≡ line_of prime.number self row column }
     {
+        let p = prime.number;
         match self {
             Direction::Row => row,
-            Direction::Diagonal => (row + column) % p,
-            Direction::Antidiagonal => (row + (p - column)) % p,
+            Direction::Diagonal => prime.wrapped(row + column),
+            Direction::Antidiagonal => prime.wrapped(row + (p - column)),
         }
     }
 }
 
 /// Whether the cell holds data and lies on the line.
-pub(crate) fn on_line(p: usize, chain: Chain, cell: Cell) -> bool
-    requires { listed p ≡ true }
-    ensures { result ≡ covers p chain.direction chain.line cell.row cell.column }
+fn on_line(prime: Prime, chain: Chain, cell: Cell) -> bool
+    ensures { result ≡ covers prime.number chain.direction chain.line cell.row cell.column }
 {
-    is_data(p, cell.row, cell.column)
-        && chain.direction.line_of(p, cell.row, cell.column) == chain.line
+    is_data(prime, cell.row, cell.column)
+        && chain.direction.line_of(prime, cell.row, cell.column) == chain.line
 }
 
 /// The parity cell of the line through a data cell.
-fn parity_through(p: usize, cell: Cell, direction: Direction) -> Cell
-    requires { (listed p ≡ true) × (data_cell p cell.row cell.column ≡ true) }
-    ensures { result ≡ parity_cell p direction (line_of p direction cell.row cell.column) }
+fn parity_through(prime: Prime, cell: Cell, direction: Direction) -> Cell
+    requires { data_cell prime.number cell.row cell.column ≡ true }
+    ensures { result ≡ parity_cell prime.number direction (line_of prime.number direction cell.row cell.column) }
 {
-    let row = direction.line_of(p, cell.row, cell.column);
-    let column = direction.parity_column(p, row);
+    let row = direction.line_of(prime, cell.row, cell.column);
+    let column = direction.parity_column(prime, row);
     Cell { row, column }
 }
 
@@ -143,63 +150,44 @@ impl Geometry {
     pub fn index(self, cell: Cell) -> Option<usize>
         ensures { MatchOption result ((cell.row < prime_of self - 1) × (cell.column ≤ prime_of self) → ⊥) (λ i. Stands (prime_of self) cell.row cell.column i) }
     {
-        let p = self.prime();
-        if cell.row < p - 1 && cell.column <= p {
-            Some(index_of(p, cell.row, cell.column))
-        } else {
-            None
-        }
+        let p = self.prime().number;
+        let is_there = cell.row < p - 1 && cell.column <= p;
+        is_there.then(|| index_of(self.prime(), cell.row, cell.column))
     }
 
     /// How many chains a stripe has, 3(p - 1).
     pub fn chains(self) -> usize
         ensures { result ≡ chains_in (prime_of self) }
     {
-        3 * (self.prime() - 1)
+        3 * (self.prime().number - 1)
     }
 
     /// The chain of a number: the rows come first, then the diagonals, then the antidiagonals.
     pub fn chain(self, number: usize) -> Option<Chain>
         ensures { MatchOption result (chains_in (prime_of self) ≤ number) (λ c. Numbered (prime_of self) c.direction c.line number) }
     {
-        let lines = self.prime() - 1;
-        if number < lines {
-            let direction = Direction::Row;
-            Some(Chain {
-                direction,
-                line: number,
-            })
+        let lines = self.prime().number - 1;
+        let (direction, line) = if number < lines {
+            (Direction::Row, number)
         } else if number < 2 * lines {
-            let direction = Direction::Diagonal;
-            Some(Chain {
-                direction,
-                line: number - lines,
-            })
+            (Direction::Diagonal, number - lines)
         } else if number < 3 * lines {
-            let direction = Direction::Antidiagonal;
-            Some(Chain {
-                direction,
-                line: number - 2 * lines,
-            })
+            (Direction::Antidiagonal, number - 2 * lines)
         } else {
-            None
-        }
+            return None;
+        };
+        Some(Chain { direction, line })
     }
 
     /// The parity cell of a chain, or nothing where the stripe has no such line.
     pub fn parity(self, chain: Chain) -> Option<Cell>
         ensures { MatchOption result (prime_of self - 1 ≤ chain.line) (λ c. (chain.line < prime_of self - 1) × (c ≡ parity_cell (prime_of self) chain.direction chain.line)) }
     {
-        let p = self.prime();
-        if chain.line < p - 1 {
-            let column = chain.direction.parity_column(p, chain.line);
-            Some(Cell {
-                row: chain.line,
-                column,
-            })
-        } else {
-            None
-        }
+        let is_there = chain.line < self.prime().number - 1;
+        is_there.then(|| Cell {
+            row: chain.line,
+            column: chain.direction.parity_column(self.prime(), chain.line),
+        })
     }
 
     /// Whether the parity of the chain covers the cell.
@@ -214,14 +202,14 @@ impl Geometry {
     pub fn parities(self, cell: Cell) -> Option<Parities>
         ensures { MatchOption result (data_cell (prime_of self) cell.row cell.column ≡ false) (λ q. Concerned (prime_of self) cell.row cell.column q.row q.diagonal q.antidiagonal) }
     {
-        let p = self.prime();
-        if !is_data(p, cell.row, cell.column) {
+        let prime = self.prime();
+        if !is_data(prime, cell.row, cell.column) {
             return None;
         }
         Some(Parities {
-            row: parity_through(p, cell, Direction::Row),
-            diagonal: parity_through(p, cell, Direction::Diagonal),
-            antidiagonal: parity_through(p, cell, Direction::Antidiagonal),
+            row: parity_through(prime, cell, Direction::Row),
+            diagonal: parity_through(prime, cell, Direction::Diagonal),
+            antidiagonal: parity_through(prime, cell, Direction::Antidiagonal),
         })
     }
 }

@@ -5,4 +5,6 @@ pub mod chain;
 pub mod encode;
 pub mod geometry;
 pub mod places;
+pub mod prime;
 pub mod stop;
+pub mod stripe;

@@ -1,15 +1,15 @@
 // Places: the data cells of a stripe by number, from 0 on, row by row, columns ascending. Everything that meets a place goes
 // through the promise of `place_cell`, so the numbering is known here alone.
-ghost use Rattle.std.specs.Prelude.{◌≡◌, ℕ, ◌+◌, ◌-◌, ◌*◌, ◌<◌, ◌≤◌, true, IfOk, nat_lt};
+ghost use Rattle.std.specs.Prelude.{◌≡◌, ◌+◌, ◌-◌, ◌<◌, ◌≤◌, true, IfOk, nat_lt};
 ghost use Rattle.tip_element.specs.Counts.{count_below};
 ghost use Rattle.tip_code.specs.Geometry.{prime_of, places_in};
 ghost use Rattle.tip_code.specs.Places.{Place, PlaceStop, Numbering};
-ghost use Rattle.tip_code.specs.Primes.{listed};
 ghost use Rattle.tip_code.specs.Stops.{Stopped};
 ghost use Rattle.tip_code.specs.Stripe.{data_cell};
 
 use super::chain::Cell;
 use super::geometry::Geometry;
+use super::prime::Prime;
 use super::stop::Stop;
 
 /// The number that has k others below it once `hole` is left out.
@@ -22,22 +22,24 @@ fn skip(k: usize, hole: usize) -> usize
 }
 
 /// The column of the data cell that has k others to its left: the two parity cells of the row are left out.
-fn data_column(p: usize, row: usize, k: usize) -> usize
-    requires { (listed p ≡ true) × (row < p - 1) × (k < p - 2) }
-    ensures { (data_cell p row result ≡ true) × (count_below result (data_cell p row) ≡ k) }
+fn data_column(prime: Prime, row: usize, k: usize) -> usize
+    requires { (row < prime.number - 1) × (k < prime.number - 2) }
+    ensures { (data_cell prime.number row result ≡ true) × (count_below result (data_cell prime.number row) ≡ k) }
 {
+    let p = prime.number;
     let first = (row + 1).min(p - 1 - row);
     let second = (row + 1).max(p - 1 - row);
     skip(skip(k, first), second)
 }
 
 /// The cell of a place that the stripe has.
-pub(crate) fn place_cell(p: usize, place: usize) -> Cell
-    requires { (listed p ≡ true) × (place < places_in p) }
-    ensures { Place p place result.row result.column }
+pub(crate) fn place_cell(prime: Prime, place: usize) -> Cell
+    requires { place < places_in prime.number }
+    ensures { Place prime.number place result.row result.column }
 {
+    let p = prime.number;
     let row = place / (p - 2);
-    let column = data_column(p, row, place % (p - 2));
+    let column = data_column(prime, row, place % (p - 2));
     Cell { row, column }
 }
 

@@ -1,21 +1,18 @@
 -- The set of places that a parity covers, place by place.
-use Rattle.std.proofs.Common.{◌≡◌, ℕ, ◌+◌, ◌-◌, ◌<◌, ◌≤◌, true, false, eqb, leb, List, length, get_or, set, sym, refl, ap, ◌∙◌, subst, ⊎_elim, arith, get_or-set_other, get_or-set_same}
+use Rattle.std.proofs.Common.{◌≡◌, ℕ, ◌+◌, ◌-◌, ◌<◌, ◌≤◌, true, false, sym, refl, ap, ◌∙◌, subst, ⊎_elim, arith}
 use Rattle.std.proofs.lemmas.Nat.{mul-le}
-use Rattle.std.proofs.lemmas.Bool.{cases_eq, eq-eqb, ne_eqb, leb-true, leb-false}
+use Rattle.std.proofs.lemmas.Bool.{cases_eq, eq-eqb, ne_eqb}
 use Rattle.tip_element.specs.Counts.{count_below}
-use Rattle.tip_cover.specs.Cover.{Cover, CoverStop, too_large, wrong_length}
+use Rattle.tip_cover.specs.Cover.{Cover}
 use Rattle.tip_code.specs.Geometry.{places_in}
 use Rattle.tip_code.specs.Places.{Place}
 use Rattle.tip_code.specs.Primes.{listed}
-use Rattle.tip_code.specs.Stops.{number, First}
 use Rattle.tip_code.specs.Stripe.{covers}
-use Rattle.tip_element.specs.Traces.{has, one_of, no_trace, Just}
+use Rattle.tip_element.specs.Traces.{has, one_of, Just}
 use Rattle.tip_code.specs.declared.chain.Direction.{Direction}
-use Rattle.tip_code.specs.declared.stop.Stop.{Stop}
-use Rattle.tip_code.specs.declared.stop.Stop.TheVariants as stop
 use Rattle.tip_element.specs.declared.trace.Trace.{Trace}
 use Rattle.tip_element.proofs.Bits.{count_same}
-use Rattle.tip_element.proofs.Sets.{count_on, count_off, one_of_same, no_member}
+use Rattle.tip_element.proofs.Sets.{count_on, count_off, one_of_same}
 use Rattle.tip_code.proofs.Numbers.{numbering}
 
 -- the numbers of places fit a trace
@@ -30,14 +27,6 @@ pub record Covered (p : ℕ) (d : Direction) (i m : ℕ) (t : Trace) (n : ℕ) :
   pub bound : n ≤ m
 
 module _ (p : ℕ) (l : listed p ≡ true) (d : Direction) (i : ℕ) where
-  pub covered_none : Covered p d i 0 no_trace 0
-  covered_none = record {
-    each = λ k r c h at. absurd (omega arith);
-    others = λ k h. no_member k;
-    count = refl;
-    bound = omega arith;
-  }
-
   -- place m is not covered
   pub covered_same : (m n : ℕ) (t : Trace) → ((r c : ℕ) → Place p m r c → false ≡ covers p d i r c) → Covered p d i m t n → Covered p d i (m + 1) t n
   covered_same m n t off before = record {
@@ -74,34 +63,3 @@ module _ (p : ℕ) (l : listed p ≡ true) (d : Direction) (i : ℕ) where
     others = all.others;
     count = all.count;
   }
-
--- one place more holds its own number
-pub own_more : (m : ℕ) (xs : List Trace) (t : Trace) → m < length xs → Just m t → ((n : ℕ) → n < m → Just n (get_or xs n no_trace)) → (n : ℕ) → n < m + 1 → Just n (get_or (set xs m t) n no_trace)
-own_more m xs t h just before n low k =
-    ⊎_elim
-    (λ (same : n ≡ m). ap (λ j. has (get_or (set xs m t) j no_trace) k) same ∙ ap (λ x. has x k) (get_or-set_same xs m t no_trace h) ∙ just k ∙ ap (eqb k) (sym same))
-    (λ other. ap (λ x. has x k) (get_or-set_other xs m n t no_trace other) ∙ before n (omega arith) k)
-    (cases_eq n m)
-
--- which stop a buffer of traces gets
-module _ (p have need : ℕ) where
-  pub cover_prime : leb p 11 ≡ false → First (CoverStop p have need) stop.Prime
-  cover_prime h = record { this = too_large (leb-false p 11 h); lower = λ t l f. under f l }
-    where
-      under : {t : Stop} → CoverStop p have need t → number t < 1 → ⊥
-      under (too_large h) l = omega arith
-      under (wrong_length h) l = omega arith
-
-  pub cover_length : leb p 11 ≡ true → (have ≡ need → ⊥) → First (CoverStop p have need) stop.Length
-  cover_length low h = record { this = wrong_length h; lower = λ t l f. under f l }
-    where
-      under : {t : Stop} → CoverStop p have need t → number t < 3 → ⊥
-      under (too_large h) l = omega (arith, leb-true p 11 low)
-      under (wrong_length h) l = omega arith
-
-  pub cover_none : leb p 11 ≡ true → have ≡ need → (t : Stop) → CoverStop p have need t → ⊥
-  cover_none low e t f = under f
-    where
-      under : {t : Stop} → CoverStop p have need t → ⊥
-      under (too_large h) = omega (arith, leb-true p 11 low)
-      under (wrong_length h) = h e

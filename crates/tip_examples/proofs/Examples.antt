@@ -1,5 +1,5 @@
 -- The examples, computed: every encoding is the one that `encoding` computes.
-use Rattle.std.proofs.Common.{◌≡◌, ℕ, ◌+◌, ◌-◌, ◌<◌, ◌≤◌, Bool, true, ◌&&◌, ◌||◌, eqb, List, [], ◌∷◌, get_or, sym, refl, ap, ◌∙◌, ⊎_elim, arith, lit<, lit≤}
+use Rattle.std.proofs.Common.{◌≡◌, ℕ, ◌+◌, ◌-◌, ◌<◌, ◌≤◌, Bool, true, ◌&&◌, ◌||◌, eqb, List, [], ◌∷◌, get_or, Ok, sym, refl, ap, ◌∙◌, ⊎_elim, arith, lit<, lit≤}
 use lib.Bits.{xor_zero_r}
 use Rattle.std.proofs.lemmas.Bool.{and_parts, or_cases, eqb-true}
 use Rattle.tip_code.specs.Encoding.{Encoded, Encodes, encoding}
@@ -12,7 +12,9 @@ use Rattle.tip_code.proofs.Encodings.{one_encoding}
 use Rattle.tip_code.proofs.Numbers.{place_first}
 use Rattle.tip_code.proofs.Sizes.{size_prime, size_stripes, size_none}
 use Rattle.tip_code.proofs.Tables.{all_below, all_at}
-use Rattle.tip_solve.proofs.Stopping.{stops_work, stops_none}
+use Rattle.tip_code.specs.declared.stop.Stop.TheVariants as stop
+use Rattle.tip_solve.specs.Solving.{too_short}
+use Rattle.tip_solve.proofs.Stopping.{first_stop, stopped_few}
 use Rattle.tip_examples.specs.Worked.{holding, EncodingOf, Rows, one_to_twelve, place_four_cleared, Worked}
 use Rattle.tip_examples.specs.WorkedSolving.{WorkedSolving}
 
@@ -106,6 +108,6 @@ worked = record {
 
 pub worked_solving : WorkedSolving
 worked_solving = record {
-  work_short = λ lost. stops_work 5 24 143 144 lost refl (lit< tt);
-  work_enough = λ lost within few. stops_none 5 24 144 144 lost (record { sized = refl; enough = lit≤ tt; columns = within }) few;
+  work_short = λ lost. first_stop 5 24 143 144 lost stop.Work (too_short (lit< tt)) (λ _. refl) (λ l. absurd (omega (arith, l))) (λ l. absurd (omega (arith, l))) (λ l. absurd (omega (arith, l)));
+  work_enough = λ lost within few. stopped_few 5 24 144 144 lost (Unit {0}) (Unit {0}) (Ok tt) (record { sized = refl; enough = lit≤ tt; columns = within }) (few, tt);
 }

@@ -1,5 +1,6 @@
 -- Which stop a choice gets.
-use Rattle.std.proofs.Common.{ℕ, ◌<◌, Option, arith}
+use Rattle.std.proofs.Common.{◌≡◌, ℕ, ◌<◌, Some, None, Option, Ok, Err, refl, arith}
+use Rattle.std.specs.Option.{ok_or}
 use Rattle.tip_code.specs.Geometry.{SizeStop}
 use Rattle.tip_code.specs.Geometry as sized
 use Rattle.tip_code.specs.Stops.{number, First}
@@ -7,6 +8,15 @@ use Rattle.tip_code.specs.declared.stop.Stop.{Stop}
 use Rattle.tip_code.specs.declared.stop.Stop.TheVariants as stop
 use Rattle.tip_columns.specs.declared.Columns.{Columns}
 use Rattle.tip_lose.specs.Choosing.{Within, Many, ChoiceStop, no_prime, no_column, too_many}
+
+-- what `ok_or` was given, from what it gave
+pub none_from_err : (o : Option Columns) (s t : Stop) → Err t ≡ ok_or o s → (o ≡ None) × (t ≡ s)
+none_from_err None s t e = (refl, Prim.cc)
+none_from_err (Some x) s t e = Prim.cc
+
+pub some_from_ok : (o : Option Columns) (s : Stop) (x : Columns) → Ok x ≡ ok_or o s → o ≡ Some x
+some_from_ok None s x e = Prim.cc
+some_from_ok (Some y) s x e = Prim.cc
 
 module _ (p : ℕ) (lost : Option Columns) where
   -- a geometry of one stripe is refused for its prime alone

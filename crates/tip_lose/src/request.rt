@@ -4,8 +4,8 @@ ghost use Rattle.tip_code.specs.Geometry.{prime_of};
 ghost use Rattle.tip_code.specs.Stops.{Stopped};
 ghost use Rattle.tip_lose.specs.Choosing.{ChoiceStop};
 
-use std::error::Error;
 use std::fmt;
+use thiserror::Error;
 use tip_code::geometry::Geometry;
 use tip_code::stop::Stop;
 use tip_columns::Columns;
@@ -18,12 +18,14 @@ pub struct Request {
 }
 
 /// Why words are refused.
-#[derive(Clone, Copy, PartialEq, Debug)]
+#[derive(Clone, Copy, PartialEq, Debug, Error)]
 pub enum Refusal {
     /// A word, counted from 1, is not a number.
+    #[error("argument {0} is not a number from 0 to {most}", most = usize::MAX)]
     NoNumber(usize),
     /// The numbers are refused.
-    Stopped(Stop),
+    #[error(transparent)]
+    Stopped(#[from] Stop),
 }
 
 /// The prime and the columns where no word is given.
@@ -33,10 +35,7 @@ const USUAL_COLUMNS: Columns = Columns(0b101010);
 
 /// The number that a word says; `place` is where it stands.
 fn number(word: &str, place: usize) -> Result<usize, Refusal> {
-    match word.parse::<usize>() {
-        Ok(number) => Ok(number),
-        Err(_) => Err(Refusal::NoNumber(place)),
-    }
+    word.parse().map_err(|_| Refusal::NoNumber(place))
 }
 
 /// The columns that the words after the first say, or nothing where one is too large for any set.
@@ -44,10 +43,7 @@ fn columns(words: &[String]) -> Result<Option<Columns>, Refusal> {
     let mut all = Some(Columns(0));
     for (before, word) in words.iter().enumerate() {
         let column = number(word.as_str(), before.saturating_add(2))?;
-        all = match all {
-            Some(some) => some.with(column),
-            None => None,
-        };
+        all = all.and_then(|some| some.with(column));
     }
     Ok(all)
 }
@@ -59,9 +55,7 @@ pub fn chosen(p: usize, lost: Option<Columns>) -> Result<Request, Stop>
     ensures value { IfOk result (λ q. (prime_of q.geometry ≡ p) × (lost ≡ Some q.lost)) }
 {
     let geometry = Geometry::new(p, 1)?;
-    let Some(lost) = lost else {
-        return Err(Stop::Column);
-    };
+    let lost = lost.ok_or(Stop::Column)?;
     if !lost.within(p) {
         return Err(Stop::Column);
     }
@@ -82,36 +76,13 @@ pub fn requested(words: &[String]) -> Result<Request, Refusal> {
     Ok(chosen(p, lost)?)
 }
 
-impl From<Stop> for Refusal {
-    fn from(stop: Stop) -> Refusal {
-        Refusal::Stopped(stop)
-    }
-}
-
-impl fmt::Display for Refusal {
-    fn fmt<W: fmt::Write>(&self, f: &mut fmt::Formatter<W>) -> fmt::Result {
-        match self {
-            Refusal::NoNumber(place) => {
-                let place = *place;
-                let most = usize::MAX;
-                write!(f, "argument {place} is not a number from 0 to {most}")
-            }
-            Refusal::Stopped(stop) => write!(f, "{stop}"),
-        }
-    }
-}
-
-impl Error for Refusal {}
-
 /// As "p = 5, lost columns 1 3 5".
 impl fmt::Display for Request {
     fn fmt<W: fmt::Write>(&self, f: &mut fmt::Formatter<W>) -> fmt::Result {
         let p = self.geometry.prime();
         write!(f, "p = {p}, lost columns")?;
-        for column in 0..=p {
-            if self.lost.has(column) {
-                write!(f, " {column}")?;
-            }
+        for column in (0..=p.number).filter(|column| self.lost.has(*column)) {
+            write!(f, " {column}")?;
         }
         if self.lost.count() == 0 {
             f.write_str(" none")?;

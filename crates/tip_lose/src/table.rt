@@ -19,9 +19,9 @@ fn show_row<W: fmt::Write>(
     row: usize,
     f: &mut fmt::Formatter<W>,
 ) -> fmt::Result {
-    for column in 0..=table.geometry.prime() {
-        let index = table.geometry.index(Cell { row, column }).unwrap_or(0);
-        match table.cells.get(index) {
+    for column in 0..=table.geometry.prime().number {
+        let index = table.geometry.index(Cell { row, column });
+        match index.and_then(|index| table.cells.get(index)) {
             Some(Word(value)) if !table.hidden.has(column) => write!(f, "{value:>5}")?,
             _ => f.write_str("   --")?,
         }
@@ -32,8 +32,8 @@ fn show_row<W: fmt::Write>(
 /// A line for each row.
 impl fmt::Display for Table<'_> {
     fn fmt<W: fmt::Write>(&self, f: &mut fmt::Formatter<W>) -> fmt::Result {
-        for row in 1..self.geometry.prime() {
-            show_row(self, row.saturating_sub(1), f)?;
+        for row in 0..self.geometry.prime().number - 1 {
+            show_row(self, row, f)?;
         }
         Ok(())
     }

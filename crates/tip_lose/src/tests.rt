@@ -10,10 +10,10 @@ use tip_columns::Columns;
 
 /// What the words of a line make.
 fn asked(heap: Global, line: &str) -> Result<Result<Request, Refusal>, Fail> {
-    let mut words = Vec::new(heap);
-    for word in line.split_whitespace() {
-        words.push(String::from_str(heap, word)?)?;
-    }
+    let words: Vec<String> = line
+        .split_whitespace()
+        .map(|word| String::from_str(heap, word))
+        .try_collect(heap)?;
     Ok(requested(&words))
 }
 
@@ -58,10 +58,7 @@ fn other_words_are_refused(rt: HostRuntime) -> Result<(), Fail> {
         ("5 18446744073709551615 1", Refusal::Stopped(Stop::Column)),
         ("5 0 1 2 3", Refusal::Stopped(Stop::Lost)),
     ] {
-        match asked(rt.alloc(), line)? {
-            Ok(_) => return Err(Fail::new(format_args!("a wrong request was taken: {line}"))),
-            Err(refusal) => assert_eq!(rt; refusal, wanted, "{}", line),
-        }
+        assert_eq!(rt; asked(rt.alloc(), line)?.err(), Some(wanted), "{}", line);
     }
     Ok(())
 }

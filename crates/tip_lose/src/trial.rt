@@ -1,7 +1,6 @@
 // A stripe that loses columns, and what solving makes of it.
 use crate::request::Request;
 use std::alloc::{AllocError, Global};
-use tip_code::chain::Cell;
 use tip_code::encode::encode;
 use tip_code::geometry::Geometry;
 use tip_columns::Columns;
@@ -20,11 +19,7 @@ pub struct Trial {
 
 /// The first numbers from 1 on.
 fn counted(heap: Global, count: usize) -> Result<Vec<Word>, AllocError> {
-    let mut all = Vec::new(heap);
-    for number in 0..count as u64 {
-        all.push(Word(number.saturating_add(1)))?;
-    }
-    Ok(all)
+    (1..=count as u64).map(Word).collect(heap)
 }
 
 /// The stripe whose places hold 1, 2, 3 and so on.
@@ -35,22 +30,12 @@ fn counted_stripe(heap: Global, geometry: Geometry) -> anyhow::Result<Vec<Word>>
     Ok(cells)
 }
 
-/// Overwrites the cells of one column.
-fn spoil(geometry: Geometry, column: usize, cells: &mut [Word]) {
-    for row in 0..geometry.prime() {
-        if let Some(index) = geometry.index(Cell { row, column }) {
-            if let Some(cell) = cells.get_mut(index) {
-                *cell = SPOILED;
-            }
-        }
-    }
-}
-
-/// Overwrites the cells of the lost columns.
+/// Overwrites the cells of the lost columns, which stand in the buffer one after another.
 fn lose(geometry: Geometry, lost: Columns, cells: &mut [Word]) {
-    for column in 0..=geometry.prime() {
+    let rows = geometry.prime().number - 1;
+    for (column, strip) in cells.chunks_mut(rows).enumerate() {
         if lost.has(column) {
-            spoil(geometry, column, cells);
+            strip.fill(SPOILED);
         }
     }
 }

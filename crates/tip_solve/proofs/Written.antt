@@ -1,12 +1,10 @@
--- Columns written into a stripe buffer, and buffers cleared.
+-- Columns written into a stripe buffer.
 use Rattle.std.proofs.Common.{◌≡◌, ℕ, ◌+◌, ◌-◌, ◌*◌, ◌<◌, ◌≤◌, Bool, true, List, ◌++◌, length, get_or, take, drop, sym, ap, ◌∙◌, ⊎_elim, arith}
 use borrow.Rule.Slice.PartMut.{put_mid, post_of}
 use Rattle.std.proofs.lemmas.List.{get_or_append_left, get_or-append_right, get_or-take, get_or-drop, length-take-le}
 use Rattle.std.proofs.lemmas.Bool.{cases_lt, both_ways}
 use Rattle.tip_code.specs.Stripe.{cell_index, stripe_of}
 use Rattle.tip_code.proofs.Cells.{index_apart}
-use Rattle.tip_algebra.proofs.Parts.{part_long}
-use Rattle.tip_solve.specs.Solving.{Cleared}
 use Rattle.tip_solve.specs.Writing.{Elsewhere}
 
 -- a list with ys written from s on
@@ -50,14 +48,3 @@ module _ {E : Type 0} (d : E) (p c s n : ℕ) (xs ys : List E) (at : s ≡ c * (
 
   pub elsewhere : (lost : ℕ → Bool) → lost c ≡ true → Elsewhere p lost c (stripe_of d p xs) (stripe_of d p (put_mid s n xs ys))
   elsewhere lost e = record { others = λ r k l _ ne. other_column r k l ne; kept = λ off. absurd (both_ways (lost c) off e) }
-
--- a list cleared after its front was written: what is beyond is as before the write
-pub cleared_over : {E : Type 0} (none : E) (n m : ℕ) (front xs ys : List E) → m ≡ n → length front ≡ length (take m (drop 0 xs)) → n ≤ length xs → Cleared none n (front ++ post_of 0 m xs) ys → Cleared none n xs ys
-cleared_over none n m front xs ys e len h c =
-    let long : length front ≡ n = len ∙ part_long m 0 xs (omega arith) ∙ e in
-    record {
-      first = c.first;
-      beyond = λ k l.
-          let at : m + (k - n) ≡ k = omega arith in
-          c.beyond k l ∙ get_or-append_right front (drop m xs) n k none long l ∙ get_or-drop m xs (k - n) none ∙ ap (λ i. get_or xs i none) at;
-    }

@@ -2,6 +2,7 @@
 use Rattle.std.specs.Prelude.{◌≡◌, ℕ, ◌-◌, ◌<◌, false, List, slice_index_or}
 use Rattle.tip_code.specs.Encoding.{Encoded}
 use Rattle.tip_solve.specs.Seeking.{sought}
+use Rattle.tip_solve.specs.declared.sought.Pair.{Pair}
 use Rattle.tip_solve.specs.declared.sought.Sought.{Sought}
 use Rattle.tip_solve.specs.declared.sought.Sought.TheVariants.{Two, Three}
 use Rattle.tip_solve.specs.declared.sought.Triple.{Triple}
@@ -10,10 +11,10 @@ use Rattle.tip_solve.specs.declared.sought.Triple.{Triple}
 abbrev pub Alike : {E : Type 0} → ℕ → Sought → (ℕ → ℕ → E) → (ℕ → ℕ → E) → Type 0
 Alike p s X W = (c : ℕ) → c < p → sought s c ≡ false → (r : ℕ) → r < p - 1 → X r c ≡ W r c
 
--- The lists hold columns f, h and p of each encoded stripe that has the other columns of X.
-abbrev pub FoundTwo : {E : Type 0} → E → (E → E → E) → ℕ → ℕ → ℕ → (ℕ → ℕ → E) → List E → List E → List E → Type 0
-FoundTwo {E} none join p f h X xs ys rs =
-    (W : ℕ → ℕ → E) → Encoded none join p W → Alike p (Two f h) X W → (r : ℕ) → r < p - 1 → (slice_index_or xs r none ≡ W r f) × (slice_index_or ys r none ≡ W r h) × (slice_index_or rs r none ≡ W r p)
+-- The lists hold the two columns and column p of each encoded stripe that has the other columns of X.
+abbrev pub FoundTwo : {E : Type 0} → E → (E → E → E) → ℕ → Pair → (ℕ → ℕ → E) → List E → List E → List E → Type 0
+FoundTwo {E} none join p t X xs ys rs =
+    (W : ℕ → ℕ → E) → Encoded none join p W → Alike p (Two t) X W → (r : ℕ) → r < p - 1 → (slice_index_or xs r none ≡ W r t.first) × (slice_index_or ys r none ≡ W r t.last) × (slice_index_or rs r none ≡ W r p)
 
 -- The lists hold the three columns of each encoded stripe that has the other columns of X, the row parities among them.
 abbrev pub FoundThree : {E : Type 0} → E → (E → E → E) → ℕ → Triple → (ℕ → ℕ → E) → List E → List E → List E → Type 0

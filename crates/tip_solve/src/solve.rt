@@ -1,24 +1,27 @@
 // Solving as users call it.
-ghost use Rattle.std.specs.Prelude.{◌≡◌, ℕ, ◌+◌, ◌-◌, ◌*◌, ◌<◌, ◌≤◌, true, false, length, Ok, Err, MatchResult};
+ghost use Rattle.std.specs.Prelude.{◌≡◌, ◌*◌, ◌<◌, ◌≤◌, true, false, length, MatchResult};
 ghost use Rattle.tip_code.specs.Geometry.{prime_of, cells_in};
 ghost use Rattle.tip_code.specs.Stops.{First, Stopped, number};
 ghost use Rattle.tip_code.specs.Stripe.{stripe_of};
 ghost use Rattle.tip_code.specs.declared.stop.Stop.TheVariants as stop;
 ghost use Rattle.tip_algebra.specs.Decided.{Decided};
 ghost use Rattle.tip_columns.specs.Sets.{in_set, size};
-ghost use Rattle.tip_solve.specs.Solving.{work_in, room_in, SolveStop, Fitting, Solved, Cleared, WorkAfter};
+ghost use Rattle.tip_solve.specs.Solving.{work_in, room_in, SolveStop, Fitting, Solved, WorkAfter};
 
 use super::recover::recover;
 use tip_code::geometry::Geometry;
+use tip_code::prime::Prime;
 use tip_code::stop::Stop;
+use tip_code::stripe::Stripe;
 use tip_columns::Columns;
 use tip_element::element::Element;
+use tip_element::slices::clear;
 
 /// How many elements a work buffer has at least, 4(p + 1)(p + 1).
 pub fn work_len(geometry: Geometry) -> usize
     ensures { result ≡ work_in (prime_of geometry) }
 {
-    let p = geometry.prime();
+    let p = geometry.prime().number;
     4 * (p + 1) * (p + 1)
 }
 
@@ -26,27 +29,8 @@ pub fn work_len(geometry: Geometry) -> usize
 pub fn room_len(geometry: Geometry) -> usize
     ensures { result ≡ room_in (prime_of geometry) }
 {
-    let p = geometry.prime();
+    let p = geometry.prime().number;
     (p + 1) * (3 * p + 5)
-}
-
-/// The first of stops 3, 9 and 12 whose test fails.
-fn first_stop(sized: bool, enough: bool, within: bool) -> Result<(), Stop>
-    ensures length { sized ≡ false → result ≡ Err stop.Length }
-    ensures work { sized ≡ true → enough ≡ false → result ≡ Err stop.Work }
-    ensures column { sized ≡ true → enough ≡ true → within ≡ false → result ≡ Err stop.Column }
-    ensures none { sized ≡ true → enough ≡ true → within ≡ true → result ≡ Ok tt }
-{
-    if !sized {
-        return Err(Stop::Length);
-    }
-    if !enough {
-        return Err(Stop::Work);
-    }
-    if !within {
-        return Err(Stop::Column);
-    }
-    Ok(())
 }
 
 /// The first of stops 3, 9 and 12 that fits.
@@ -59,9 +43,16 @@ fn fitting(
 ) -> Result<(), Stop>
     ensures { MatchResult result (λ _. Fitting (prime_of geometry) cells room least lost) (λ s. First (SolveStop (prime_of geometry) cells room least lost) s × (number s < 13)) }
 {
-    let sized = cells == geometry.cells();
-    let within = lost.within(geometry.prime());
-    first_stop(sized, room >= least, within)
+    if cells != geometry.cells() {
+        return Err(Stop::Length);
+    }
+    if room < least {
+        return Err(Stop::Work);
+    }
+    if !lost.within(geometry.prime().number) {
+        return Err(Stop::Column);
+    }
+    Ok(())
 }
 
 /// Whether so few are lost that they can be solved.
@@ -72,14 +63,22 @@ fn is_few(lost: Columns) -> bool
     lost.count() <= 3
 }
 
-/// Makes the first elements zero.
-fn clear_first<E: Element>(elements: &mut [E], count: usize)
-    requires { count ≤ length elements.old }
-    ensures { Cleared E.zero count elements.old elements.new }
+/// Solves the lost columns if they are few enough. Stop 13: more than three are lost, and the stripe buffer stays as it was.
+fn recover_few<E: Element>(
+    prime: Prime,
+    cells: &mut [E],
+    lost: Columns,
+    room: &mut [E],
+) -> Result<(), Stop>
+    requires { (length cells.old ≡ cells_in prime.number) × (13 * prime.number ≤ length room.old) }
+    ensures { MatchResult result (λ _. (size lost ≤ 3) × Solved E.zero E.join prime.number (in_set lost) (stripe_of E.zero prime.number cells.old) (stripe_of E.zero prime.number cells.new)) (λ s. (s ≡ stop.Lost) × (3 < size lost) × (cells.new ≡ cells.old)) }
 {
-    for i in 0..count {
-        elements[i] = E::zero();
+    if !is_few(lost) {
+        return Err(Stop::Lost);
     }
+    let mut stripe = Stripe { prime, cells };
+    recover(lost, &mut stripe, room);
+    Ok(())
 }
 
 /// Solves the lost columns of a stripe buffer of (p - 1)(p + 1) elements in place, with a work buffer of at least 4(p + 1)(p + 1)
@@ -102,13 +101,10 @@ pub fn solve<E: Element>(
 {
     let size = work_len(geometry);
     fitting(geometry, cells.len(), lost, work.len(), size)?;
-    if !is_few(lost) {
-        clear_first(work, size);
-        return Err(Stop::Lost);
-    }
-    recover(geometry.prime(), lost, cells, &mut work[0..size]);
-    clear_first(work, size);
-    Ok(())
+    let used = &mut work[..size];
+    let answer = recover_few(geometry.prime(), cells, lost, used);
+    clear(used);
+    answer
 }
 
 /// Solves as `solve` does, with room of its own of at least (p + 1)(3p + 5) elements, what a stripe buffer leaves of a work
@@ -124,9 +120,5 @@ pub fn solve_beside<E: Element>(
     ensures cells { MatchResult result (λ _. Solved E.zero E.join (prime_of geometry) (in_set lost) (stripe_of E.zero (prime_of geometry) cells.old) (stripe_of E.zero (prime_of geometry) cells.new)) (λ _. cells.new ≡ cells.old) }
 {
     fitting(geometry, cells.len(), lost, room.len(), room_len(geometry))?;
-    if !is_few(lost) {
-        return Err(Stop::Lost);
-    }
-    recover(geometry.prime(), lost, cells, room);
-    Ok(())
+    recover_few(geometry.prime(), cells, lost, room)
 }

@@ -5,7 +5,8 @@
 use anyhow::anyhow;
 use tip_code::encode::encode;
 use tip_code::geometry::Geometry;
-use tip_cover::{Tally, compare, inspect, own_numbers};
+use tip_code::prime::PRIMES;
+use tip_cover::{LARGEST_TRACED, Tally, compare, inspect, own_numbers};
 use tip_element::element::Element;
 use tip_element::trace::Trace;
 
@@ -23,10 +24,9 @@ fn encoded(rt: &HostRuntime, geometry: Geometry) -> anyhow::Result<Vec<Trace>> {
 fn show_wrong(rt: &HostRuntime, geometry: Geometry, cells: &[Trace]) -> anyhow::Result<()> {
     let p = geometry.prime();
     for number in 0..geometry.chains() {
-        if let Some(finding) = inspect(geometry, cells, number)? {
-            if !finding.agrees() {
-                println!(rt; "p = {p}: {finding}")?;
-            }
+        let found = inspect(geometry, cells, number)?;
+        if let Some(finding) = found.filter(|finding| !finding.agrees()) {
+            println!(rt; "p = {p}: {finding}")?;
         }
     }
     Ok(())
@@ -47,11 +47,12 @@ fn show(rt: &HostRuntime, p: usize) -> anyhow::Result<Tally> {
 }
 
 /// Compares the stripes of all primes whose places a trace can hold, and prints what came of it.
-fn run(rt: &HostRuntime) -> anyhow::Result<()> {
+fn main(rt: HostRuntime) -> anyhow::Result<()> {
     let mut compared: usize = 0;
     let mut agreed: usize = 0;
-    for p in [3, 5, 7, 11] {
-        let tally = show(rt, p)?;
+    for p in PRIMES.into_iter().filter(|p| *p <= LARGEST_TRACED) {
+        let tally = show(&rt, p)?;
+        // Nothing bounds the sums for the proof.
         compared = compared.saturating_add(tally.compared);
         agreed = agreed.saturating_add(tally.agreed);
     }
@@ -60,8 +61,4 @@ fn run(rt: &HostRuntime) -> anyhow::Result<()> {
         return Err(anyhow!("encoding and rules disagree"));
     }
     Ok(())
-}
-
-fn main(rt: HostRuntime) -> anyhow::Result<()> {
-    run(&rt)
 }

@@ -4,37 +4,14 @@
 
 use anyhow::anyhow;
 use std::env;
-use tip_code::geometry::Geometry;
 use tip_columns::Columns;
-use tip_element::word::Word;
 use tip_lose::request::{Request, requested};
 use tip_lose::table::Table;
-use tip_lose::trial::{Trial, tried};
+use tip_lose::trial::tried;
 
 /// The arguments after the program's name.
 fn words(rt: &HostRuntime) -> anyhow::Result<Vec<String>> {
-    let mut all = Vec::new(rt.alloc());
-    for word in env::args(rt)?.skip(1) {
-        all.push(word)?;
-    }
-    Ok(all)
-}
-
-/// Prints a stripe under a heading, without its hidden columns.
-fn show(
-    rt: &HostRuntime,
-    heading: &str,
-    geometry: Geometry,
-    cells: &[Word],
-    hidden: Columns,
-) -> anyhow::Result<()> {
-    let table = Table {
-        geometry,
-        cells,
-        hidden,
-    };
-    print!(rt; "{heading}:\n{table}")?;
-    Ok(())
+    Ok(env::args(rt)?.skip(1).collect(rt.alloc())?)
 }
 
 /// Prints the stripe as it was encoded, as it is without the lost columns, and as it was solved.
@@ -42,10 +19,21 @@ fn run(rt: &HostRuntime) -> anyhow::Result<()> {
     let request = requested(&words(rt)?)?;
     let trial = tried(rt.alloc(), request)?;
     let Request { geometry, lost } = request;
+    let encoded = Table {
+        geometry,
+        cells: &trial.encoded,
+        hidden: Columns(0),
+    };
+    let kept = Table {
+        hidden: lost,
+        ..encoded
+    };
+    let solved = Table {
+        cells: &trial.solved,
+        ..encoded
+    };
     println!(rt; "{request}")?;
-    show(rt, "encoded", geometry, &trial.encoded, Columns(0))?;
-    show(rt, "lost", geometry, &trial.encoded, lost)?;
-    show(rt, "solved", geometry, &trial.solved, Columns(0))?;
+    print!(rt; "encoded:\n{encoded}lost:\n{kept}solved:\n{solved}")?;
     if !trial.is_whole() {
         return Err(anyhow!("this is not the stripe that was encoded"));
     }

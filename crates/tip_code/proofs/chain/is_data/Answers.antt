@@ -5,10 +5,10 @@ use Rattle.tip_code.proofs.chain.is_data.Goals.{else-row-p-via-then-row-p+else-c
 
 pub returns-then-column-p : goal.returns-then-column-p
 returns-then-column-p c =
-    c.off_parity.ensures ∙ sym (data_last c.args.p c.args.row c.args.column c.if-row-p.true c.if-column-p.true)
+    c.off_parity.ensures ∙ sym (data_last c.args.prime.number c.args.row c.args.column c.if-row-p.true c.if-column-p.true)
 
 pub returns-else-row-p : goal.returns-else-row-p
-returns-else-row-p c = sym (data_not c.args.p c.args.row c.args.column (λ d.
+returns-else-row-p c = sym (data_not c.args.prime.number c.args.row c.args.column (λ d.
     elim c.else-row-p.branch [
       | else-row-p-via-then-row-p+else-column-p w ↦ omega (arith, w.if-column-p.false, d.column)
       | else-row-p-via-else-row-p w ↦ omega (arith, w.if-row-p.false, d.row)

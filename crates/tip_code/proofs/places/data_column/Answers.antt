@@ -8,6 +8,6 @@ returns c =
     let m = c.skip.result in
     let one = skip_is k c.min-first.result m c.skip.ensures.below c.skip.ensures.above in
     let two = skip_is m c.max-second.result c.skip-2.result c.skip-2.ensures.below c.skip-2.ensures.above in
-    skips_find c.args.p c.requires.0 c.args.row k m c.skip-2.result c.requires.1 c.requires.2
+    skips_find c.args.prime.number c.args.prime.listed c.args.row k m c.skip-2.result c.requires.0 c.requires.1
     (one ∙ ap (skipped k) c.min-first.ensures)
     (two ∙ ap (skipped m) c.max-second.ensures)

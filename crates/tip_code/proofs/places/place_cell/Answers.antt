@@ -3,9 +3,10 @@ use Rattle.tip_code.proofs.places.place_cell.Goals as goal
 
 pub data_column-column-requires : goal.data_column-column-requires
 data_column-column-requires c =
-    let p = c.args.p in
-    (c.requires.0, place_row p c.requires.0 c.args.place c.requires.1, place_left p c.requires.0 c.args.place)
+    let p = c.args.prime in
+    (place_row p.number p.listed c.args.place c.requires, place_left p.number p.listed c.args.place)
 
 pub returns : goal.returns
 returns c =
-    place_is c.args.p c.requires.0 c.args.place c.data_column-column.result c.requires.1 c.data_column-column.ensures
+    let p = c.args.prime in
+    place_is p.number p.listed c.args.place c.data_column-column.result c.requires c.data_column-column.ensures

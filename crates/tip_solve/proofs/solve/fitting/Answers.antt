@@ -1,16 +1,13 @@
-use Rattle.std.proofs.Common.{ℕ, ◌≤◌, sym, ◌∙◌, subst}
-use Rattle.std.proofs.lemmas.Bool.{both_ways, eqb-true, eqb-false, leb-true, leb-false}
-use Rattle.tip_code.specs.Geometry.{prime_of}
-use Rattle.tip_solve.proofs.Stopping.{fitted}
+use Rattle.std.proofs.Common.{rules}
+use Rattle.tip_solve.specs.Solving.{cells_length, too_short, no_column}
+use Rattle.tip_solve.proofs.Stopping.{first_stop}
 use Rattle.tip_solve.proofs.solve.fitting.Goals as goal
 
-pub returns : goal.returns
-returns c =
-    let e = c.prime.ensures.value in
-    let t = c.within-within in
-    let s = c.first_stop.ensures in
-    fitted (prime_of c.args.geometry) c.args.cells c.args.room c.args.least c.args.lost _ _ t.result c.first_stop.result s.length s.work s.column s.none
-    (λ q. eqb-true _ _ q ∙ c.cells.ensures) (λ q k. eqb-false _ _ q (k ∙ sym c.cells.ensures))
-    (leb-true _ _) (leb-false _ _)
-    (λ q k on. subst (λ (n : ℕ). k ≤ n) e (t.ensures.sound q k on))
-    (λ q all. both_ways t.result q (t.ensures.whole (λ k on. subst (λ (n : ℕ). k ≤ n) (sym e) (all k on))))
+pub returns-then-cells : goal.returns-then-cells
+returns-then-cells c = (first_stop _ _ _ _ _ _ (search (rules, cells_length)) (search rules) (search rules) (search rules) (search rules), search rules)
+
+pub returns-then-room-least : goal.returns-then-room-least
+returns-then-room-least c = (first_stop _ _ _ _ _ _ (search (rules, too_short)) (search rules) (search rules) (search rules) (search rules), search rules)
+
+pub returns-then-not-within : goal.returns-then-not-within
+returns-then-not-within c = (first_stop _ _ _ _ _ _ (search (rules, no_column)) (search rules) (search rules) (search rules) (search rules), search rules)

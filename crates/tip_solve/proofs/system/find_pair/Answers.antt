@@ -1,29 +1,26 @@
-use Rattle.std.proofs.Common.{◌≡◌, ◌+◌, ◌-◌, ◌%◌, length, get_or, ap, ◌∙◌, arith}
-use Rattle.std.proofs.lemmas.List.{get_or_read}
+use Rattle.std.proofs.Common.{◌+◌, ◌-◌, ◌%◌, ◌<◌, get_or, ap, ◌∙◌, arith}
+use Rattle.tip_code.proofs.Tables.{prime_facts}
 use Rattle.tip_algebra.proofs.Pair.{doubled, pair_found}
 use Rattle.tip_solve.proofs.system.find_pair.Goals as goal
 
 pub returns : goal.returns
 returns g c X Y s =
     let m = g.E.Element in
-    let p = c.args.p in
-    let f = c.args.first in
-    let h = c.args.last in
-    let d = c.args.diagonals.now in
-    let a = c.args.antidiagonals.now in
-    let y₀ = c.divide.new.quotient in
-    let y = c.join_onto.new.elements in
-    let long : length y₀ ≡ p = c.divide.auto.quotient ∙ c.requires.sized.4 in
-    pair_found m.laws p f h c.requires.columns.1 c.requires.columns.2 d a X Y s c.join_turned.new.sum y₀ y c.join_turned-2.new.sum c.wrapped.result c.index-y-p.result c.wrapped.ensures.value
+    let sums = c.args.sums.now in
+    let p = sums.prime.number in
+    let f = c.args.at.first in
+    let h = c.args.at.last in
+    let a = sums.antidiagonals.now in
+    let y = c.divide_from.new.quotient in
+    pair_found m.laws p f h c.args.at.ordered c.requires.below sums.diagonals.now a X Y s c.join_turned.new.sum y c.join_turned-2.new.sum c.wrapped-step.result (c.wrapped-step.ensures.value (omega (arith, c.requires.below)))
     (λ i low. c.join_turned.ensures i low ∙ ap (λ e. m.join e (get_or a ((i + (p - h)) % p) m.zero)) (c.copy_turned.ensures i low))
-    c.divide.ensures
-    (get_or_read y₀ (p - 1 - h) c.index-y-p.result (omega (arith, c.requires.columns.2)) c.index-y-p.is m.zero)
-    (λ i low. c.join_onto.ensures i (omega arith))
+    c.divide_from.ensures
     (λ i low. c.join_turned-2.ensures i low ∙ ap (λ e. m.join e (get_or y ((i + (p + f - h)) % p) m.zero)) (c.copy_turned-2.ensures i low))
 
 -- twice the distance is no multiple of p, which is odd
-pub divide-requires : goal.divide-requires
-divide-requires g c =
-    let p = c.args.p in
-    let u = c.args.last - c.args.first in
-    (c.requires.columns.0, doubled p u c.wrapped.result (omega (arith, c.requires.columns.1)) (omega (arith, c.requires.columns.2)) c.requires.columns.0.odd c.wrapped.ensures.value, c.wrapped.ensures.within, c.join_turned.auto.sum ∙ c.copy_turned.auto.copy ∙ c.requires.sized.2, c.requires.sized.4)
+pub divide_from-requires : goal.divide_from-requires
+divide_from-requires g c =
+    let p = c.args.sums.now.prime.number in
+    let u = c.args.at.last - c.args.at.first in
+    let low : u + u < p + p = omega (arith, c.requires.below) in
+    (doubled p u c.wrapped-step.result (omega (arith, c.args.at.ordered)) (omega (arith, c.requires.below)) (prime_facts p c.args.sums.now.prime.listed).odd (c.wrapped-step.ensures.value low), c.wrapped-step.ensures.within low, omega (arith, c.requires.below), c.join_turned.auto.sum ∙ c.copy_turned.auto.copy ∙ c.requires.sized.0, c.requires.sized.2)

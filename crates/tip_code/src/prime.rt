@@ -1,0 +1,49 @@
+// The primes that a stripe may be made for.
+ghost use Rattle.std.specs.Prelude.{◌≡◌, ◌+◌, ◌-◌, ◌%◌, ◌<◌, ◌≤◌, true, false, MatchResult};
+ghost use Rattle.tip_code.specs.Primes.{listed};
+ghost use Rattle.tip_code.specs.declared.stop.Stop.TheVariants as stop;
+
+use super::stop::Stop;
+use std::fmt;
+
+/// The ten primes.
+pub const PRIMES: [usize; 10] = [3, 5, 7, 11, 13, 17, 19, 23, 29, 31];
+
+/// One of the ten primes.
+#[derive(Clone, Copy, PartialEq, Eq, Debug)]
+pub struct Prime {
+    pub number: usize,
+    pub ghost listed: { listed number ≡ true },
+    pub ghost low: { 3 ≤ number },
+    pub ghost high: { number ≤ 31 },
+}
+
+impl Prime {
+    /// The number as a prime. Stop 1: it is not one of the ten.
+    pub fn new(number: usize) -> Result<Prime, Stop>
+        ensures { MatchResult result (λ p. p.number ≡ number) (λ s. (s ≡ stop.Prime) × (listed number ≡ false)) }
+    {
+        if PRIMES.contains(&number) {
+            Ok(Prime { number })
+        } else {
+            Err(Stop::Prime)
+        }
+    }
+
+    /// The number once round: less p where it is not below p. Of a number below 2p that is the remainder mod p.
+    pub fn wrapped(self, number: usize) -> usize
+        ensures low { number < self.number → result ≡ number }
+        ensures high { self.number ≤ number → result ≡ number - self.number }
+        ensures value { number < self.number + self.number → result ≡ number % self.number }
+        ensures within { number < self.number + self.number → result < self.number }
+    {
+        let p = self.number;
+        if number < p { number } else { number - p }
+    }
+}
+
+impl fmt::Display for Prime {
+    fn fmt<W: fmt::Write>(&self, f: &mut fmt::Formatter<W>) -> fmt::Result {
+        write!(f, "{}", self.number)
+    }
+}
