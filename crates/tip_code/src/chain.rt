@@ -69,11 +69,7 @@ pub(crate) fn is_data(prime: Prime, row: usize, column: usize) -> bool
     ensures { result ≡ data_cell prime.number row column }
 {
     let p = prime.number;
-    if row < p - 1 && column < p {
-        off_parity(prime, row, column)
-    } else {
-        false
-    }
+    row < p - 1 && column < p && off_parity(prime, row, column)
 }
 
 /// Where a cell stands in a stripe buffer.

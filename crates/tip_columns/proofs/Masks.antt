@@ -1,8 +1,8 @@
 -- Sets of columns with one more in them, and sets that end.
-use Rattle.std.proofs.Common.{◌≡◌, ℕ, zero, suc, ◌+◌, ◌-◌, ◌/◌, ◌%◌, ◌^◌, ◌<◌, ◌≤◌, Bool, true, false, ◌||◌, eqb, sym, refl, ap, ◌∙◌, ⊎_elim, arith, lit<}
+use Rattle.std.proofs.Common.{◌≡◌, ℕ, zero, suc, ◌+◌, ◌-◌, ◌/◌, ◌%◌, ◌^◌, ◌<◌, ◌≤◌, Bool, true, false, ◌||◌, eqb, leb, sym, refl, ap, ◌∙◌, ⊎_elim, arith, lit<}
 use lib.Bits.{bit_or}
 use Rattle.std.proofs.lemmas.Nat.{or_shr, or_mod, shr-shr, shr_le, mod_below, pow_pos}
-use Rattle.std.proofs.lemmas.Bool.{cases_lt, both_ways, eqb-true, eq-eqb}
+use Rattle.std.proofs.lemmas.Bool.{cases_lt, both_ways, eqb-true, eq-eqb, le-leb}
 use Rattle.tip_element.specs.Laws.{Exactly}
 use Rattle.tip_element.specs.Traces.{bit}
 use Rattle.tip_element.proofs.Bits.{bit_power, bit_above, bit_zero, bits_same}
@@ -57,6 +57,5 @@ ends_at x last low = record { sound = sound; whole = whole }
         (λ n _. bit_from x (last + 1) n ∙ off (bit x (last + 1 + n)) (last + 1 + n) refl ends (omega arith) ∙ sym (bit_zero n)))
 
 -- A word of 64 bits has no bit set from 64 on.
-pub ends_last : (x last : ℕ) → x < 2 ^ 64 → 63 ≤ last → Exactly true ((c : ℕ) → bit x c ≡ true → c ≤ last)
-ends_last x last low h =
-    record { sound = λ _ c on. ⊎_elim (λ (past : last < c). absurd (both_ways (bit x c) (bit_above 64 x c low (omega arith)) on)) (λ l. l) (cases_lt last c); whole = λ _. refl }
+pub ends_last : (x last : ℕ) → x < 2 ^ 64 → 63 ≤ last → Exactly (leb 63 last) ((c : ℕ) → bit x c ≡ true → c ≤ last)
+ends_last x last low h = record { sound = λ _ c on. grind (arith, bit_above 64 x c low); whole = λ _. le-leb 63 last h }

@@ -69,10 +69,6 @@ impl Columns {
     pub fn within(self, last: usize) -> bool
         ensures { Exactly result ((c : ℕ) → in_set self c ≡ true → c ≤ last) }
     {
-        if last < 63 {
-            above(self.0, last) == 0
-        } else {
-            true
-        }
+        last >= 63 || above(self.0, last) == 0
     }
 }

@@ -34,9 +34,5 @@ impl Element for Word {
 pub fn has_bit(word: u64, index: usize) -> bool
     ensures { result ≡ bit word index }
 {
-    if index < 64 {
-        (word >> index) % 2 == 1
-    } else {
-        false
-    }
+    index < 64 && (word >> index) % 2 == 1
 }
