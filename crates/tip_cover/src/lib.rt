@@ -35,7 +35,7 @@ pub struct Finding {
 }
 
 /// How many parities were compared, and how many of them hold what they should.
-#[derive(Clone, Copy)]
+#[derive(Clone, Copy, PartialEq, Eq, Debug)]
 pub struct Tally {
     pub compared: usize,
     pub agreed: usize,

@@ -6,7 +6,7 @@ use std::test::Fail;
 use tip_code::encode::encode;
 use tip_code::geometry::Geometry;
 use tip_code::stop::Stop;
-use tip_cover::{compare, inspect, own_numbers};
+use tip_cover::{Tally, compare, inspect, own_numbers};
 use tip_element::element::Element;
 use tip_element::trace::Trace;
 
@@ -26,13 +26,13 @@ fn check_all(rt: &impl Abort, geometry: Geometry, cells: &[Trace]) -> Result<(),
         let finding = inspect(geometry, cells, number)?.ok_or("no such chain")?;
         assert!(rt; finding.agrees(), "p {p}, chain {number}");
     }
-    let tally = compare(geometry, cells)?;
-    assert_eq!(rt; tally.compared, geometry.chains(), "p {p}");
-    assert_eq!(rt; tally.agreed, geometry.chains(), "p {p}");
-    assert!(rt;
-        inspect(geometry, cells, geometry.chains())?.is_none(),
-        "p {p}"
-    );
+    let all = geometry.chains();
+    let tally = Tally {
+        compared: all,
+        agreed: all,
+    };
+    assert_eq!(rt; compare(geometry, cells)?, tally, "p {p}");
+    assert!(rt; inspect(geometry, cells, all)?.is_none(), "p {p}");
     assert!(rt; inspect(geometry, cells, usize::MAX)?.is_none(), "p {p}");
     Ok(())
 }
