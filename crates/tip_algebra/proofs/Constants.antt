@@ -13,4 +13,4 @@ module _ {E : Type 0} {none : E} {join : E → E → E} (laws : Laws none join) 
 
   -- where the column has a zero, the division shows the constant
   pub at_zero : (p k : ℕ) (y : List E) (s : ℕ → E) → k < p → Divided none join p y s → s k ≡ none → get_or y k none ≡ s 0
-  at_zero p k y s low d e = d k low ∙ ap (λ a. join a (s 0)) e ∙ laws.neutral (s 0)
+  at_zero p k y s low d e = cc (d k low, laws.neutral (s 0))

@@ -1,6 +1,6 @@
 -- Counts of the numbers that pass a test, and the first of them; which columns are lost, where at most three are.
-use Rattle.std.proofs.Common.{◌≡◌, ℕ, zero, suc, ◌+◌, ◌<◌, ◌≤◌, Bool, true, false, cond, not, ◌⊎◌, refl, ap, ◌∙◌, inl, inr, ⊎_elim, arith}
-use Rattle.std.proofs.lemmas.Bool.{cases_eq, cases_lt, cases_Bool, cond-true, cond_both}
+use Rattle.std.proofs.Common.{◌≡◌, ℕ, zero, suc, ◌+◌, ◌<◌, ◌≤◌, Bool, true, false, not, ◌⊎◌, refl, inl, inr, ⊎_elim, arith}
+use Rattle.std.proofs.lemmas.Bool.{cases_eq}
 use Rattle.tip_element.specs.Counts.{count_below}
 
 -- No number from m on and below n passes the test t.
@@ -18,26 +18,15 @@ pub record First (t : ℕ → Bool) (m n : ℕ) : Type 0 where
 -- those that pass and those that fail are all
 pub count_not : (n : ℕ) (t : ℕ → Bool) → count_below n t + count_below n (λ i. not (t i)) ≡ n
 count_not zero t = refl
-count_not (suc n) t = go (t n) (count_below n t) (count_below n (λ i. not (t i))) (count_not n t)
-  where
-    go : (b : Bool) (k m : ℕ) → k + m ≡ n → cond b (suc k) k + cond (not b) (suc m) m ≡ suc n
-    go true k m e = omega arith
-    go false k m e = omega arith
+count_not (suc n) t = grind (arith, count_not n t)
 
 pub count_mono : (m n : ℕ) (t : ℕ → Bool) → m ≤ n → count_below m t ≤ count_below n t
-count_mono m zero t h = let e : zero ≡ m = omega arith in omega (arith, ap (λ k. count_below k t) e)
-count_mono m (suc n) t h =
-    ⊎_elim
-    (λ (e : m ≡ suc n). omega (arith, ap (λ k. count_below k t) e))
-    (λ (e : m ≡ suc n → ⊥).
-    let rest = count_mono m n t (omega arith) in
-    cond_both (t n) (suc (count_below n t)) (count_below n t) (λ k. count_below m t ≤ k) (λ _. omega arith) (λ _. rest))
-    (cases_eq m (suc n))
+count_mono m zero t h = grind (arith, cases_eq m 0)
+count_mono m (suc n) t h = grind (arith, cases_eq m (suc n), count_mono m n t)
 
 -- one that passes counts
 pub count_step : (i n : ℕ) (t : ℕ → Bool) → i < n → t i ≡ true → count_below i t + 1 ≤ count_below n t
-count_step i n t h e =
-    omega (arith, cond-true (t i) (suc (count_below i t)) (count_below i t) e, count_mono (suc i) n t (omega arith))
+count_step i n t h e = grind (arith, count_mono (suc i) n t)
 
 pub four : (a b c d n : ℕ) (t : ℕ → Bool) → a < b → b < c → c < d → d < n → t a ≡ true → t b ≡ true → t c ≡ true → t d ≡ true → 4 ≤ count_below n t
 four a b c d n t ab bc cd dn ta tb tc td =
@@ -49,18 +38,11 @@ first_from m zero t = inl (λ i h l. absurd (omega arith))
 first_from m (suc n) t =
     ⊎_elim
     (λ (clear : Clear t m n). ⊎_elim
-    (λ (l : n < m). inl (λ i h b. absurd (omega arith)))
-    (λ (l : m ≤ n). ⊎_elim
-    (λ (e : t n ≡ true). inr (record { place = n; from = l; below = omega arith; holds = e; before = clear }))
-    (λ (e : t n ≡ false). inl (λ i h b. ⊎_elim (λ (s : i ≡ n). ap t s ∙ e) (λ (s : i ≡ n → ⊥). clear i h (omega arith)) (cases_eq i n)))
-    (cases_Bool (t n)))
-    (cases_lt n m))
+    (λ (here : (m ≤ n) × (t n ≡ true)). inr (record { place = n; from = here.0; below = omega arith; holds = here.1; before = clear }))
+    (λ (none : (m ≤ n) × (t n ≡ true) → ⊥). inl (λ i h b. grind (arith, cases_eq i n, clear i)))
+    (grind arith))
     (λ (f : First t m n). inr (record { place = f.place; from = f.from; below = omega arith; holds = f.holds; before = f.before }))
     (first_from m n t)
-
--- a number before the first one, or past it
-past : (t : ℕ → Bool) (m a c : ℕ) → Clear t m a → m ≤ c → (c ≡ a → ⊥) → (a + 1 ≤ c → t c ≡ false) → t c ≡ false
-past t m a c clear h n rest = ⊎_elim (λ (l : c < a). clear c h l) (λ (l : a ≤ c). rest (omega arith)) (cases_lt c a)
 
 -- Of the columns below p the test t picks at most f and h.
 pub record TwoLost (p : ℕ) (t : ℕ → Bool) : Type 0 where
@@ -88,10 +70,9 @@ module _ (p : ℕ) (t : ℕ → Bool) (low : 3 ≤ p) where
   -- one is lost: 0 or 1 stands beside it
   one_lost : (a : First t 0 p) → Clear t (a.place + 1) p → TwoLost p t
   one_lost a clear =
-      let rest : (c : ℕ) → c < p → (c ≡ a.place → ⊥) → t c ≡ false = λ c l n. past t 0 a.place c a.before (omega arith) n (λ b. clear c b l) in
       ⊎_elim
-      (λ (e : a.place ≡ 0). record { f = 0; h = 1; fh = omega arith; hp = omega arith; others = λ c l n _. rest c l (omega arith) })
-      (λ (e : a.place ≡ 0 → ⊥). record { f = 0; h = a.place; fh = omega arith; hp = a.below; others = λ c l _ n. rest c l n })
+      (λ (e : a.place ≡ 0). record { f = 0; h = 1; fh = omega arith; hp = omega arith; others = λ c l n _. grind (arith, a.before c, clear c) })
+      (λ (e : a.place ≡ 0 → ⊥). record { f = 0; h = a.place; fh = omega arith; hp = a.below; others = λ c l _ n. grind (arith, a.before c, clear c) })
       (cases_eq a.place 0)
 
   two_lost : (a : First t 0 p) (b : First t (a.place + 1) p) → Clear t (b.place + 1) p → TwoLost p t
@@ -101,7 +82,7 @@ module _ (p : ℕ) (t : ℕ → Bool) (low : 3 ≤ p) where
         h = b.place;
         fh = omega (arith, b.from);
         hp = b.below;
-        others = λ c l n m. past t 0 a.place c a.before (omega arith) n (λ r. past t (a.place + 1) b.place c b.before r m (λ s. clear c s l));
+        others = λ c l n m. grind (arith, a.before c, b.before c, clear c);
       }
 
   three_lost : (a : First t 0 p) (b : First t (a.place + 1) p) (d : First t (b.place + 1) p) → Clear t (d.place + 1) (p + 1) → ThreeLost p t
@@ -113,8 +94,7 @@ module _ (p : ℕ) (t : ℕ → Bool) (low : 3 ≤ p) where
         fg = omega (arith, b.from);
         gh = omega (arith, d.from);
         hp = d.below;
-        others = λ c l n m o. past t 0 a.place c a.before (omega arith) n
-            (λ r. past t (a.place + 1) b.place c b.before r m (λ s. past t (b.place + 1) d.place c d.before s o (λ q. clear c q (omega arith))));
+        others = λ c l n m o. grind (arith, a.before c, b.before c, d.before c, clear c);
         last = clear p (omega (arith, d.below)) (omega arith);
       }
 

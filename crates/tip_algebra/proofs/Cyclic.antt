@@ -1,5 +1,5 @@
 -- Indices mod p, by periodic functions.
-use Rattle.std.proofs.Common.{◌≡◌, ℕ, zero, suc, ◌+◌, ◌-◌, ◌*◌, ◌/◌, ◌%◌, ◌<◌, ◌≤◌, List, get_or, sym, ap, ◌∙◌, add-zero, mod-lt, mod-eq_of_lt, suc-mul, div-add-mod', zero-mul, arith}
+use Rattle.std.proofs.Common.{◌≡◌, ℕ, zero, suc, ◌+◌, ◌-◌, ◌*◌, ◌/◌, ◌%◌, ◌<◌, ◌≤◌, List, get_or, sym, ap, ◌∙◌, mod-lt, mod-eq_of_lt, suc-mul, div-add-mod', zero-mul, arith}
 use native.Mathlib.Nat.{add-mod_right, add-mod-mod, mod-add-mod}
 use Rattle.tip_code.proofs.Remainders.{wrap_high}
 use Rattle.tip_algebra.specs.Cyclic.{Per, Holds}
@@ -7,7 +7,7 @@ use Rattle.tip_algebra.specs.Cyclic.{Per, Holds}
 module _ {E : Type 0} (p : ℕ) (X : ℕ → E) (per : Per p X) where
   -- m periods on
   pub per_many : (m a : ℕ) → X (a + m * p) ≡ X a
-  per_many zero a = ap X (ap (λ n. a + n) (zero-mul p) ∙ add-zero a)
+  per_many zero a = ap X (omega (arith, zero-mul p))
   per_many (suc m) a = ap X (omega (arith, suc-mul m p)) ∙ per (a + m * p) ∙ per_many m a
 
   -- two places that are apart by whole periods: at numerals m and n the premise is omega's
@@ -26,11 +26,10 @@ mod_per p i = add-mod_right i p
 
 -- the index that is `turn` after i, before and after the end of the period
 pub turn_low : (p i turn start : ℕ) → start ≡ turn % p → i + start < p → (i + turn) % p ≡ i + start
-turn_low p i turn start e h = sym (add-mod-mod i turn p) ∙ ap (λ n. (i + n) % p) (sym e) ∙ mod-eq_of_lt h
+turn_low p i turn start e h = rw (← add-mod-mod i turn p, ← e) (mod-eq_of_lt h)
 
 pub turn_high : (p i turn start : ℕ) → start ≡ turn % p → start < p → i < p → p ≤ i + start → (i + turn) % p ≡ i + start - p
-turn_high p i turn start e l k h =
-    sym (add-mod-mod i turn p) ∙ ap (λ n. (i + n) % p) (sym e) ∙ sym (wrap_high p (i + start) h (omega arith))
+turn_high p i turn start e l k h = rw (← add-mod-mod i turn p, ← e) (sym (wrap_high p (i + start) h (omega arith)))
 
 -- a list that holds one turn, read at an index mod p
 module _ {E : Type 0} (none : E) (p : ℕ) (X : ℕ → E) (per : Per p X) (xs : List E) (holds : Holds none p xs X) (some : 0 < p) where
@@ -38,4 +37,4 @@ module _ {E : Type 0} (none : E) (p : ℕ) (X : ℕ → E) (per : Per p X) (xs :
   held_mod k = holds (k % p) (mod-lt k some) ∙ per_mod p X per k
 
   pub held_mod_add : (k j : ℕ) → get_or xs ((k % p + j) % p) none ≡ X (k + j)
-  held_mod_add k j = ap (λ n. get_or xs n none) (mod-add-mod k p j) ∙ held_mod (k + j)
+  held_mod_add k j = rw mod-add-mod (held_mod (k + j))

@@ -1,7 +1,9 @@
 -- Any p - 2 columns decide an encoded stripe: the join of two that agree there is encoded too, and zero everywhere.
-use Rattle.std.proofs.Common.{◌≡◌, ℕ, zero, suc, ◌+◌, ◌-◌, ◌*◌, ◌%◌, ◌<◌, ◌≤◌, Bool, true, false, cond, not, ◌||◌, eqb, List, [], ◌∷◌, get_or, replicate, sym, refl, ap, ◌∙◌, ⊎_elim, mod-lt, mod-eq_of_lt, suc-mul, zero-mul, arith}
+use Rattle.std.proofs.Common.{◌≡◌, ℕ, zero, suc, ◌+◌, ◌-◌, ◌*◌, ◌%◌, ◌<◌, ◌≤◌, Bool, true, false, cond, not, ◌||◌, eqb, List, [], ◌∷◌, get_or, replicate, sym, refl, ap, ◌∙◌, ⊎_elim, mod-lt, mod-eq_of_lt, suc-mul, zero-mul, arith, rules}
+use Rattle.std.proofs.lemmas.List.{places}
+use Rattle.std.proofs.lemmas.Bool.Decides.{nat_tests}
 use native.Mathlib.Nat.{mod-add-mod, zero-mod}
-use Rattle.std.proofs.lemmas.Bool.{cases_eq, cases_Bool, or_parts, not-false, eqb-false, ne_eqb, cond-false, cond_both}
+use Rattle.std.proofs.lemmas.Bool.{cases_eq, cases_Bool, not-false}
 use Rattle.tip_element.specs.Laws.{Laws}
 use Rattle.tip_element.specs.Counts.{join_below, count_below}
 use Rattle.tip_element.proofs.Joins.{join_same, right}
@@ -30,13 +32,11 @@ use Rattle.tip_algebra.proofs.Walk.{walked_all}
 module _ {E : Type 0} {none : E} {join : E → E → E} (laws : Laws none join) (p : ℕ) where
   -- the parities of column c, from the column unfolded and its excess
   pub diagonal_top : (W : ℕ → ℕ → E) (c : ℕ) → 0 < c → c < p → unfolded none p W c (p - 1) ≡ W (c - 1) c
-  diagonal_top W c n l =
-      unfolded_top none p W c (p - 1) (mod-eq_of_lt (omega arith))
-      ∙ cond-false (eqb c 0) none (W (c - 1) c) (ne_eqb c 0 (omega arith))
+  diagonal_top W c n l = unfolded_top none p W c (p - 1) (mod-eq_of_lt (omega arith)) ∙ grind (arith, nat_tests)
 
   pub excess_past : (W : ℕ → ℕ → E) (c : ℕ) → 0 < c → excess none join p W c ≡ join (W (c - 1) c) (W (p - 1 - c) c)
   unfolding excess
-  excess_past W c n = cond-false (eqb c 0) none (join (W (c - 1) c) (W (p - 1 - c) c)) (ne_eqb c 0 (omega arith))
+  excess_past W c n = grind (arith, nat_tests)
 
   -- two stripes agree on a column, where it agrees unfolded and in its excess
   module _ (W Z : ℕ → ℕ → E) (c : ℕ) (l : c < p) (u : (i : ℕ) → i < p → unfolded none p W c i ≡ unfolded none p Z c i) (e : excess none join p W c ≡ excess none join p Z c) where
@@ -54,23 +54,12 @@ module _ {E : Type 0} {none : E} {join : E → E → E} (laws : Laws none join) 
 
     pub column_same : (r : ℕ) → r < p - 1 → W r c ≡ Z r c
     column_same r h =
-        ⊎_elim (same_datum r h)
-        (λ (t : data_cell p r c ≡ false). ⊎_elim
-        (λ (a : c ≡ p). absurd (omega arith))
-        (⊎_elim
-        (λ (a : c ≡ r + 1). let b : c - 1 ≡ r = omega arith in ap (λ n. W n c) (sym b) ∙ same_diagonal (omega arith) ∙ ap (λ n. Z n c) b)
-        (λ (a : c ≡ p - 1 - r). let b : p - 1 - c ≡ r = omega arith in ap (λ n. W n c) (sym b) ∙ same_antidiagonal (omega arith) ∙ ap (λ n. Z n c) b))
-        (parity_cases p r c t h (omega arith)))
-        (cases_Bool (data_cell p r c))
+        grind (arith, cases_Bool (data_cell p r c), same_datum r h, same_diagonal, same_antidiagonal, parity_cases p r c)
 
 -- The join of two encoded stripes is encoded.
 module _ {E : Type 0} {none : E} {join : E → E → E} (laws : Laws none join) (p : ℕ) (X Y : ℕ → ℕ → E) where
   datum_join : (r c : ℕ) → datum none p (λ s d. join (X s d) (Y s d)) r c ≡ join (datum none p X r c) (datum none p Y r c)
-  datum_join r c = go (data_cell p r c)
-    where
-      go : (b : Bool) → cond b (join (X r c) (Y r c)) none ≡ join (cond b (X r c) none) (cond b (Y r c) none)
-      go true = refl
-      go false = sym (laws.neutral none)
+  datum_join r c = grind (arith, laws.neutral none)
 
   line_join_both : (d : Direction) (i : ℕ) → line_join none join p (λ r c. join (X r c) (Y r c)) d i ≡ join (line_join none join p X d i) (line_join none join p Y d i)
   line_join_both d i =
@@ -78,7 +67,7 @@ module _ {E : Type 0} {none : E} {join : E → E → E} (laws : Laws none join) 
       ∙ sum_join laws p (λ c. datum none p X (crossing p d i c) c) (λ c. datum none p Y (crossing p d i c) c)
 
   both : {a b : E} (d : Direction) (i : ℕ) → a ≡ line_join none join p X d i → b ≡ line_join none join p Y d i → join a b ≡ line_join none join p (λ r c. join (X r c) (Y r c)) d i
-  both {a} {b} d i ha hb = ap (λ s. join s b) ha ∙ ap (join (line_join none join p X d i)) hb ∙ sym (line_join_both d i)
+  both {a} {b} d i ha hb = cc (line_join_both d i)
 
   pub encoded_join : Encoded none join p X → Encoded none join p Y → Encoded none join p (λ r c. join (X r c) (Y r c))
   encoded_join x y =
@@ -93,21 +82,14 @@ abbrev zeros : {E : Type 0} → E → ℕ → List E
 zeros none p = replicate p none
 
 zeros_at : {E : Type 0} (none : E) (p i : ℕ) → get_or (zeros none p) i none ≡ none
-zeros_at none zero i = refl
-zeros_at none (suc p) zero = refl
-zeros_at none (suc p) (suc i) = zeros_at none p i
-
--- zero either way
-cond_none : {E : Type 0} (b : Bool) {x y none : E} → x ≡ none → y ≡ none → cond b x y ≡ none
-cond_none true ex ey = ex
-cond_none false ex ey = ey
+zeros_at none p i = search (rules, places)
 
 module _ {E : Type 0} {none : E} {join : E → E → E} (laws : Laws none join) where
   joins_none : {a b : E} → a ≡ none → b ≡ none → join a b ≡ none
-  joins_none {a} {b} ea eb = ap (λ x. join x b) ea ∙ laws.neutral b ∙ eb
+  joins_none {a} {b} ea eb = cc (laws.neutral none)
 
   zeros_two : (p i j k : ℕ) → get_or (zeros none p) i none ≡ join (get_or (zeros none p) j none) (get_or (zeros none p) k none)
-  zeros_two p i j k = zeros_at none p i ∙ sym (joins_none (zeros_at none p j) (zeros_at none p k))
+  zeros_two p i j k = cc (zeros_at none p i, zeros_at none p j, zeros_at none p k, laws.neutral none)
 
   -- a sequence that no step of u changes is the same throughout
   multiples : (p u : ℕ) (t : ℕ → E) → Steps none join p u (zeros none p) t → 0 < p → (k : ℕ) → t (k * u % p) ≡ t 0
@@ -163,11 +145,11 @@ module _ {E : Type 0} {none : E} {join : E → E → E} (laws : Laws none join) 
 module _ {E : Type 0} {none : E} {join : E → E → E} (laws : Laws none join) (p : ℕ) where
   blank_unfolded : (c i : ℕ) → unfolded none p (λ _ _. none) c i ≡ none
   unfolding unfolded
-  blank_unfolded c i = cond_none (eqb (i % p) (p - 1)) (cond_none (eqb c 0) refl refl) (cond_none (data_cell p (i % p) c) refl refl)
+  blank_unfolded c i = grind arith
 
   blank_excess : (c : ℕ) → excess none join p (λ _ _. none) c ≡ none
   unfolding excess
-  blank_excess c = cond_none (eqb c 0) refl (laws.neutral none)
+  blank_excess c = grind (arith, laws.neutral none)
 
   module _ (W : ℕ → ℕ → E) (c : ℕ) (l : c < p) where
     pub column_zero : ((i : ℕ) → i < p → unfolded none p W c i ≡ none) → excess none join p W c ≡ none → (r : ℕ) → r < p - 1 → W r c ≡ none
@@ -182,13 +164,13 @@ module _ {E : Type 0} {none : E} {join : E → E → E} (laws : Laws none join) 
 
     zero_anti : ((r : ℕ) → r < p - 1 → W r c ≡ none) → (i : ℕ) → unfolded_anti none join p W c i ≡ none
     unfolding at_last
-    zero_anti z i = joins_none laws (zero_unfolded z i) (cond_none (eqb (i % p) (p - 1)) (zero_excess z) refl)
+    zero_anti z i = grind (arith, laws.neutral none, zero_unfolded z i, zero_excess z)
 
 -- A stripe with zeros in the columns below p that t leaves out.
 module _ {E : Type 0} {none : E} {join : E → E → E} (laws : Laws none join) (p : ℕ) (t : ℕ → Bool) (X : ℕ → ℕ → E) (off : (c : ℕ) → c < p → t c ≡ false → (r : ℕ) → r < p - 1 → X r c ≡ none) where
   known_none : (i : ℕ) (F : ℕ → E) → ((c : ℕ) → c < p → t c ≡ false → F c ≡ none) → get_or (zeros none p) i none ≡ join_below none join p (except none t F)
   known_none i F e =
-      zeros_at none p i ∙ sym (sum_zero laws p (except none t F) (λ c l. cond_both (t c) none (F c) (λ y. y ≡ none) (λ _. refl) (e c l)))
+      zeros_at none p i ∙ sym (sum_zero laws p (except none t F) (λ c l. grind (arith, e c l)))
 
   known_zero : KnownSums none join p t X (zeros none p) (zeros none p) (zeros none p) none
   known_zero =
@@ -209,7 +191,7 @@ module _ {E : Type 0} {none : E} {join : E → E → E} (laws : Laws none join) 
 
   -- a zero excess changes nothing
   taken_none : {a : E} (b : Bool) → a ≡ none → join a (cond b none none) ≡ none
-  taken_none b e = joins_none laws e (cond_none b refl refl)
+  taken_none b e = grind (arith, laws.neutral none)
 
   mirror_two : (i : ℕ) → get_or (zeros none p) i none ≡ join (get_or (zeros none p) i none) (get_or (zeros none p) (opposite p i % p) none)
   mirror_two i = zeros_two laws p i i (opposite p i % p)
@@ -218,8 +200,7 @@ module _ {E : Type 0} {none : E} {join : E → E → E} (laws : Laws none join) 
   module _ (f h : ℕ) (fh : f < h) (hp : h < p) (off : (c : ℕ) → c < p → (c ≡ f → ⊥) → (c ≡ h → ⊥) → (r : ℕ) → r < p - 1 → X r c ≡ none) where
     two_known : KnownSums none join p (λ c. eqb c f || eqb c h) X (zeros none p) (zeros none p) (zeros none p) none
     two_known =
-        known_zero laws p (λ c. eqb c f || eqb c h) X
-        (λ c l e. let q = or_parts (eqb c f) (eqb c h) e in off c l (eqb-false c f q.0) (eqb-false c h q.1))
+        known_zero laws p (λ c. eqb c f || eqb c h) X (λ c l e. off c l (grind (arith, nat_tests)) (grind (arith, nat_tests)))
 
     two_excess : (none ≡ excess none join p X f) × (none ≡ excess none join p X h)
     two_excess =
@@ -246,23 +227,14 @@ module _ {E : Type 0} {none : E} {join : E → E → E} (laws : Laws none join) 
 
     two_zero : (r c : ℕ) → r < p - 1 → c ≤ p → X r c ≡ none
     two_zero r c b l =
-        ⊎_elim (λ (e : c ≡ p). ap (X r) e ∙ two_parity r b)
-        (λ (n : c ≡ p → ⊥). ⊎_elim (λ (e : c ≡ f). ap (X r) e ∙ two_columns.0 r b)
-        (λ (m : c ≡ f → ⊥). ⊎_elim (λ (e : c ≡ h). ap (X r) e ∙ two_columns.1 r b)
-        (λ (k : c ≡ h → ⊥). off c (omega arith) m k r b)
-        (cases_eq c h))
-        (cases_eq c f))
-        (cases_eq c p)
+        grind (arith, cases_eq c p, cases_eq c f, cases_eq c h, two_parity r b, two_columns.0 r b, two_columns.1 r b, off c)
 
   -- at most columns f, g and h are not zero
   module _ (f g h : ℕ) (fg : f < g) (gh : g < h) (hp : h < p) (off : (c : ℕ) → c < p → (c ≡ f → ⊥) → (c ≡ g → ⊥) → (c ≡ h → ⊥) → (r : ℕ) → r < p - 1 → X r c ≡ none) (last : (r : ℕ) → r < p - 1 → X r p ≡ none) where
     three_known : KnownSums none join p (λ c. eqb c f || (eqb c g || eqb c h)) X (zeros none p) (zeros none p) (zeros none p) none
     three_known =
         known_zero laws p (λ c. eqb c f || (eqb c g || eqb c h)) X
-        (λ c l e.
-        let q = or_parts (eqb c f) (eqb c g || eqb c h) e in
-        let s = or_parts (eqb c g) (eqb c h) q.1 in
-        off c l (eqb-false c f q.0) (eqb-false c g s.0) (eqb-false c h s.1))
+        (λ c l e. off c l (grind (arith, nat_tests)) (grind (arith, nat_tests)) (grind (arith, nat_tests)))
 
     three_rows : (i : ℕ) → i < p - 1 → get_or (zeros none p) i none ≡ join (get_or (zeros none p) i none) (X i p)
     three_rows i b = zeros_at none p i ∙ sym (joins_none laws (zeros_at none p i) (last i b))
@@ -290,15 +262,7 @@ module _ {E : Type 0} {none : E} {join : E → E → E} (laws : Laws none join) 
 
     three_zero : (r c : ℕ) → r < p - 1 → c ≤ p → X r c ≡ none
     three_zero r c b l =
-        ⊎_elim (λ (e : c ≡ p). ap (X r) e ∙ last r b)
-        (λ (n : c ≡ p → ⊥). ⊎_elim (λ (e : c ≡ f). ap (X r) e ∙ three_columns.0 r b)
-        (λ (m : c ≡ f → ⊥). ⊎_elim (λ (e : c ≡ g). ap (X r) e ∙ three_columns.1 r b)
-        (λ (k : c ≡ g → ⊥). ⊎_elim (λ (e : c ≡ h). ap (X r) e ∙ three_columns.2 r b)
-        (λ (j : c ≡ h → ⊥). off c (omega arith) m k j r b)
-        (cases_eq c h))
-        (cases_eq c g))
-        (cases_eq c f))
-        (cases_eq c p)
+        grind (arith, cases_eq c p, cases_eq c f, cases_eq c g, cases_eq c h, last r b, three_columns.0 r b, three_columns.1 r b, three_columns.2 r b, off c)
 
 pub decided : {E : Type 0} {none : E} {join : E → E → E} (laws : Laws none join) (p : ℕ) → PrimeFacts p → Decided none join p
 decided {E} {none} {join} laws p prime X Y x y kept many agree r c b l =

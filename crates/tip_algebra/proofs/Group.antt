@@ -100,12 +100,6 @@ module _ {E : Type 0} {none : E} {join : E → E → E} (laws : Laws none join) 
   solve env a b t =
       same (eval none join env a) (eval none join env b) (sym (sound env (a ⊕ b)) ∙ blanks (norm (a ⊕ b)) env t)
 
-  -- The same, from an equation between two others: a + b = l + r.
-  pub solve1 : (env : List E) (a b l r : Expr) → T (blank (norm ((a ⊕ b) ⊕ (l ⊕ r)))) → eval none join env l ≡ eval none join env r → eval none join env a ≡ eval none join env b
-  solve1 env a b l r t h =
-      same (eval none join env a) (eval none join env b)
-      (solve env (a ⊕ b) (l ⊕ r) t ∙ ap (λ x. join x (eval none join env r)) h ∙ laws.cancel (eval none join env r))
-
 -- an equation between two expressions
 pub data Eqn : Type 0 where
   ◌≐◌ : Expr → Expr → Eqn

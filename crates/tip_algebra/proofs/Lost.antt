@@ -1,6 +1,7 @@
 -- From the sums of the known columns of an encoded stripe to those of the unknown ones.
-use Rattle.std.proofs.Common.{◌≡◌, ℕ, ◌+◌, ◌-◌, ◌%◌, ◌<◌, ◌≤◌, Bool, true, false, cond, ◌||◌, eqb, List, [], ◌∷◌, get_or, sym, refl, ap, ◌∙◌, subst, ⊎_elim, mod-lt, mod-eq_of_lt, arith}
-use Rattle.std.proofs.lemmas.Bool.{cases_eq, cases_lt, or_from, eq-eqb, ne_eqb, cond-true, cond-false}
+use Rattle.std.proofs.Common.{◌≡◌, ℕ, ◌+◌, ◌-◌, ◌%◌, ◌<◌, ◌≤◌, Bool, false, cond, ◌||◌, eqb, List, [], ◌∷◌, get_or, sym, refl, ap, ◌∙◌, ⊎_elim, mod-lt, mod-eq_of_lt, arith}
+use Rattle.std.proofs.lemmas.Bool.Decides.{nat_tests}
+use Rattle.std.proofs.lemmas.Bool.{cases_lt, ne_eqb, cond-false}
 use Rattle.tip_element.specs.Laws.{Laws}
 use Rattle.tip_element.specs.Counts.{join_below}
 use Rattle.tip_element.proofs.Joins.{join_same, right}
@@ -16,16 +17,12 @@ use Rattle.tip_algebra.proofs.Sums.{sum_take}
 use Rattle.tip_algebra.proofs.Rules.{mod_at, opposite_at, anti_apart, unfolded_per, unfolded_zero, at_last_top, at_last_off, at_last_even, anti_per, anti_off, folded_per, folded_zero, folded_last, rule_diagonal, rule_antidiagonal, rule_row, rule_last, rule_excess}
 
 module _ {E : Type 0} {none : E} {join : E → E → E} (laws : Laws none join) where
-  nested : (s t : Bool) (x : E) → cond s none (cond t none x) ≡ cond (s || t) none x
-  nested true t x = refl
-  nested false t x = refl
-
   -- one term more out of a sum
   pub sum_drop : (n k : ℕ) (t : ℕ → Bool) (F : ℕ → E) → k < n → t k ≡ false → join_below none join n (except none t F) ≡ join (F k) (join_below none join n (except none (λ c. eqb c k || t c) F))
   sum_drop n k t F h e =
       sum_take laws n k (except none t F) h
       ∙ ap (λ y. join y (join_below none join n (except none (λ c. eqb c k) (except none t F)))) (cond-false (t k) none (F k) e)
-      ∙ ap (join (F k)) (join_same none join n _ _ (λ c _. nested (eqb c k) (t c) (F c)))
+      ∙ ap (join (F k)) (join_same none join n _ _ (λ c _. grind arith))
 
   -- what the known columns join to, with the sum s of all, is what the unknown ones do
   pub sum_two : (p f h : ℕ) → f < h → h < p → (F : ℕ → E) (s k : E) → join_below none join p F ≡ s → k ≡ join_below none join p (except none (λ c. eqb c f || eqb c h) F) → join k s ≡ join (F f) (F h)
@@ -43,7 +40,7 @@ module _ {E : Type 0} {none : E} {join : E → E → E} (laws : Laws none join) 
       (k ∷ s ∷ F f ∷ F g ∷ F h ∷ join_below none join p (except none t F)
       ∷ join_below none join p (except none (λ c. eqb c f || t c) F) ∷ [])
       (v 0 ⊕ v 1) ((v 2 ⊕ v 3) ⊕ v 4) ((v 5 ⊕ v 1 ≐ v 3 ⊕ v 4) ∷ (v 0 ≐ v 6) ∷ (v 5 ≐ v 2 ⊕ v 6) ∷ []) tt
-      (sum_two p g h gh hp F s _ all refl, (known, (sum_drop p f t F (omega arith) (or_from (eqb f g) (eqb f h) (ne_eqb f g (omega arith)) (ne_eqb f h (omega arith))), tt)))
+      (sum_two p g h gh hp F s _ all refl, (known, (sum_drop p f t F (omega arith) (grind (arith, nat_tests)), tt)))
 
   -- joins taken column by column
   fold_two : {z a b x y x' y' k m : E} → z ≡ join a b → a ≡ join x y → b ≡ join x' y' → join x x' ≡ k → join y y' ≡ m → z ≡ join k m
@@ -100,12 +97,7 @@ module _ {E : Type 0} {none : E} {join : E → E → E} (laws : Laws none join) 
   -- and its excess in an antidiagonal sum
   pub column_excess : (e : E) → e ≡ excess none join p X c → cond (eqb i (p - 1 - c)) e none ≡ at_last none p (excess none join p X c) (i + c)
   column_excess e same =
-      ⊎_elim
-      (λ (t : i ≡ p - 1 - c). cond-true (eqb i (p - 1 - c)) e none (eq-eqb i (p - 1 - c) t) ∙ same
-      ∙ sym (at_last_top none p (excess none join p X c) (i + c) (mod_at p 0 0 (i + c) (p - 1) (omega arith) (omega arith))))
-      (λ (t : i ≡ p - 1 - c → ⊥). cond-false (eqb i (p - 1 - c)) e none (ne_eqb i (p - 1 - c) t)
-      ∙ sym (at_last_off none p (excess none join p X c) (i + c) (anti_apart p i c l h (omega arith))))
-      (cases_eq i (p - 1 - c))
+      grind (arith, nat_tests, mod_at p 0 0 (i + c) (p - 1), anti_apart p i c l h, at_last_top none p (excess none join p X c) (i + c), at_last_off none p (excess none join p X c) (i + c))
 
 -- Columns f and h are unknown.
 module _ {E : Type 0} {none : E} {join : E → E → E} (laws : Laws none join) (p : ℕ) (prime : PrimeFacts p) (X : ℕ → ℕ → E) (x : Encoded none join p X) (f h : ℕ) (fh : f < h) (hp : h < p) (d a r : List E) (e : E) (k : KnownSums none join p (λ c. eqb c f || eqb c h) X d a r e) where
@@ -169,9 +161,8 @@ module _ {E : Type 0} {none : E} {join : E → E → E} (laws : Laws none join) 
       ⊎_elim
       (λ (b : i < p - 1). rows i b ∙ three (λ c. unfolded none p X c i) (X i p) (get_or r i none) (rule_row laws p prime X x i b) (k.row i l))
       (λ (b : p - 1 ≤ i).
-      let t : p - 1 ≡ i = omega arith in
-      subst (λ (n : ℕ). get_or r' n none ≡ join (join (unfolded none p X f n) (unfolded none p X g n)) (unfolded none p X h n)) t
-      (last ∙ three (λ c. unfolded none p X c (p - 1)) (join_below none join (p - 1) (λ i. X i p)) (get_or r (p - 1) none) (rule_last laws p prime X x) (k.row (p - 1) (omega arith))))
+      let t : i ≡ p - 1 = omega arith in
+      rw t (last ∙ three (λ c. unfolded none p X c (p - 1)) (join_below none join (p - 1) (λ i. X i p)) (get_or r (p - 1) none) (rule_last laws p prime X x) (k.row (p - 1) (omega arith))))
       (cases_lt i (p - 1))
 
   three_excess : e ≡ join (join (excess none join p X f) (excess none join p X g)) (excess none join p X h)
@@ -192,9 +183,8 @@ module _ {E : Type 0} {none : E} {join : E → E → E} (laws : Laws none join) 
         row = λ i l. ⊎_elim
             (λ (b : i < p - 1). fold_three laws (hr i b) (three_row i l) (three_row (opposite p i % p) (low i)) (column_row laws p X i l f fp b) (column_row laws p X i l g gp b) (column_row laws p X i l h hp b))
             (λ (b : p - 1 ≤ i).
-            let t : p - 1 ≡ i = omega arith in
-            subst (λ (n : ℕ). get_or re n none ≡ join (join (folded none join p X f n) (folded none join p X g n)) (folded none join p X h n)) t
-            (he ∙ three_excess ∙ rw (← top f, ← top g, ← top h)))
+            let t : i ≡ p - 1 = omega arith in
+            rw t (he ∙ three_excess ∙ rw (← top f, ← top g, ← top h)))
             (cases_lt i (p - 1));
         diagonal = λ i l. fold_three laws (hd i l) (three_diagonal i l) (three_antidiagonal (opposite p i % p) (low i)) (column_diagonal laws p X i l f fp) (column_diagonal laws p X i l g gp) (column_diagonal laws p X i l h hp);
         antidiagonal = λ i l. fold_three laws (ha i l) (three_antidiagonal i l) (three_diagonal (opposite p i % p) (low i)) (column_antidiagonal laws p X i l f fp) (column_antidiagonal laws p X i l g gp) (column_antidiagonal laws p X i l h hp);

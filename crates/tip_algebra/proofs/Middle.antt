@@ -18,10 +18,7 @@ stepped join p w M n = join (M n) (M (n + (p - w)))
 
 -- a join of three columns, each moved, repeats as they do
 three_per : {E : Type 0} (join : E → E → E) (p a b c : ℕ) (X M Y : ℕ → E) → Per p X → Per p M → Per p Y → Per p (λ i. join (join (X (i + a)) (M (i + b))) (Y (i + c)))
-three_per join p a b c X M Y px pm py i =
-    let ec : i + p + c ≡ i + c + p = omega arith in
-    ap (λ x. join x (Y (i + p + c))) (two_per join p a b X M px pm i)
-    ∙ ap (λ n. join (join (X (i + a)) (M (i + b))) (Y n)) ec ∙ ap (join (join (X (i + a)) (M (i + b)))) (py (i + c))
+three_per join p a b c X M Y px pm py i = grind (arith, two_per join p a b X M px pm i, py (i + c))
 
 module _ {E : Type 0} {none : E} {join : E → E → E} (laws : Laws none join) (p : ℕ) (M : ℕ → E) (per : Per p M) (w : ℕ) (low : w < p) where
   -- over a whole turn a column stepped joins to zero
@@ -60,7 +57,7 @@ module _ {E : Type 0} {none : E} {join : E → E → E} (laws : Laws none join) 
       let R = λ (m : ℕ). join (join (X m) (M m)) (Y m) in
       let D = λ (m : ℕ). join (join (X (m + (p - f))) (M (m + (p - g)))) (Y (m + (p - h))) in
       let A = λ (m : ℕ). join (join (X (m + f)) (M (m + g))) (Y (m + h)) in
-      let rp : Per p R = λ m. ap (λ x. join (join x (M (m + p))) (Y (m + p))) (px m) ∙ ap (λ x. join (join (X m) x) (Y (m + p))) (pm m) ∙ ap (join (join (X m) (M m))) (py m) in
+      let rp : Per p R = λ m. cc (px m, pm m, py m) in
       let dp = three_per join p (p - f) (p - g) (p - h) X M Y px pm py in
       let ap' = three_per join p f g h X M Y px pm py in
       let r₁ = held_mod none p R rp r s.row pos k in

@@ -1,7 +1,6 @@
 -- Two unknown columns from their joins along diagonals and antidiagonals.
-use Rattle.std.proofs.Common.{◌≡◌, ℕ, ◌+◌, ◌-◌, ◌%◌, ◌<◌, ◌≤◌, List, [], ◌∷◌, get_or, sym, ap, ◌∙◌, ⊎_elim, mod-lt, arith}
+use Rattle.std.proofs.Common.{◌≡◌, ℕ, ◌+◌, ◌-◌, ◌%◌, ◌<◌, List, [], ◌∷◌, get_or, sym, ap, ◌∙◌, mod-lt, arith}
 use native.Mathlib.Nat.{add-mod-mod}
-use Rattle.std.proofs.lemmas.Bool.{cases_lt}
 use Rattle.tip_element.specs.Laws.{Laws}
 use Rattle.tip_code.proofs.Remainders.{wrap_low, wrap_high}
 use Rattle.tip_algebra.specs.Cyclic.{Per, Holds, Steps}
@@ -11,19 +10,11 @@ use Rattle.tip_algebra.proofs.Group.{v, ◌⊕◌, ◌≐◌, solveBy}
 
 -- twice a distance is no multiple of p, which is odd
 pub doubled : (p u n : ℕ) → 0 < u → u < p → p % 2 ≡ 1 → n ≡ (u + u) % p → 0 < n
-doubled p u n h l odd e =
-    ⊎_elim
-    (λ (b : u + u < p). omega (arith, wrap_low p (u + u) b))
-    (λ (b : p ≤ u + u). omega (arith, wrap_high p (u + u) b (omega arith)))
-    (cases_lt (u + u) p)
+doubled p u n h l odd e = grind (arith, wrap_low p (u + u), wrap_high p (u + u))
 
 -- a join of two columns, each moved, repeats as they do
 pub two_per : {E : Type 0} (join : E → E → E) (p a b : ℕ) (X Y : ℕ → E) → Per p X → Per p Y → Per p (λ i. join (X (i + a)) (Y (i + b)))
-two_per join p a b X Y px py i =
-    let ea : i + p + a ≡ i + a + p = omega arith in
-    let eb : i + p + b ≡ i + b + p = omega arith in
-    ap (λ n. join (X n) (Y (i + p + b))) ea ∙ ap (λ x. join x (Y (i + p + b))) (px (i + a))
-    ∙ ap (λ n. join (X (i + a)) (Y n)) eb ∙ ap (join (X (i + a))) (py (i + b))
+two_per join p a b X Y px py i = grind (arith, px (i + a), py (i + b))
 
 module _ {E : Type 0} {none : E} {join : E → E → E} (laws : Laws none join) (p f h : ℕ) (fh : f < h) (hp : h < p) (d a : List E) (X Y : ℕ → E) (s : PairSums none join p f h d a X Y) where
   -- a diagonal and the antidiagonal that meets it in column f leave column h and itself moved by twice the distance

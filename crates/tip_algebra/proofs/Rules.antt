@@ -1,7 +1,8 @@
 -- What the columns of a stripe obey, unfolded; and of an encoded one, that they join to nothing along the lines.
-use Rattle.std.proofs.Common.{◌≡◌, ℕ, zero, suc, ◌+◌, ◌-◌, ◌*◌, ◌/◌, ◌%◌, ◌<◌, ◌≤◌, cond, eqb, [], ◌∷◌, sym, refl, ap, ◌∙◌, ⊎_elim, mod-lt, mod-eq_of_lt, add-mul, div-add-mod', arith}
+use Rattle.std.proofs.Common.{◌≡◌, ℕ, zero, suc, ◌+◌, ◌-◌, ◌*◌, ◌/◌, ◌%◌, ◌<◌, eqb, [], ◌∷◌, sym, ap, ◌∙◌, ⊎_elim, mod-lt, mod-eq_of_lt, add-mul, div-add-mod', arith}
+use Rattle.std.proofs.lemmas.Bool.Decides.{nat_tests}
 use native.Mathlib.Nat.{add-mod_right}
-use Rattle.std.proofs.lemmas.Bool.{cases_eq, cases_lt, eq-eqb, ne_eqb, cond-true, cond-false}
+use Rattle.std.proofs.lemmas.Bool.{cases_eq}
 use Rattle.tip_element.specs.Laws.{Laws}
 use Rattle.tip_element.specs.Counts.{join_below}
 use Rattle.tip_element.proofs.Joins.{join_same, right}
@@ -12,8 +13,8 @@ use Rattle.tip_code.proofs.Data.{datum_same, datum_out}
 use Rattle.tip_algebra.specs.Cyclic.{Per, opposite}
 use Rattle.tip_algebra.specs.Known.{except}
 use Rattle.tip_algebra.specs.Unfolded.{diagonal_parity, unfolded, excess, at_last, unfolded_anti, folded}
-use Rattle.tip_algebra.proofs.Group.{o, v, ◌⊕◌, ◌≐◌, same, solve, solveBy}
-use Rattle.tip_algebra.proofs.Cyclic.{per_at, per_mod, mod_per}
+use Rattle.tip_algebra.proofs.Group.{o, v, ◌⊕◌, ◌≐◌, same, solveBy}
+use Rattle.tip_algebra.proofs.Cyclic.{per_at, mod_per}
 use Rattle.tip_algebra.proofs.Sums.{sum_join, sum_zero, sum_take, sum_swap, sum_shift}
 
 -- the remainder, of a number that is apart from it by whole periods
@@ -28,49 +29,40 @@ opposite_at p F per pos m n k e =
 -- diagonal i reaches row p - 1 in column i + 1 alone, and antidiagonal i in column p - 1 - i
 pub diagonal_apart : (p i c : ℕ) → i < p - 1 → c < p → (c ≡ i + 1 → ⊥) → (i + (p - c)) % p ≡ p - 1 → ⊥
 diagonal_apart p i c h l n e =
-    ⊎_elim
-    (λ (b : i < c). let m : (i + (p - c)) % p ≡ i + (p - c) = mod-eq_of_lt (omega arith) in omega arith)
-    (λ (b : c ≤ i). let m : (i + (p - c)) % p ≡ i - c = mod_at p 0 1 (i + (p - c)) (i - c) (omega arith) (omega arith) in omega arith)
-    (cases_lt i c)
+    grind (arith, mod_at p 0 0 (i + (p - c)) (i + (p - c)), mod_at p 0 1 (i + (p - c)) (i - c))
 
 pub anti_apart : (p i c : ℕ) → i < p → c < p → (c ≡ p - 1 - i → ⊥) → (i + c) % p ≡ p - 1 → ⊥
-anti_apart p i c h l n e =
-    ⊎_elim
-    (λ (b : i + c < p). let m : (i + c) % p ≡ i + c = mod-eq_of_lt b in omega arith)
-    (λ (b : p ≤ i + c). let m : (i + c) % p ≡ i + c - p = mod_at p 0 1 (i + c) (i + c - p) (omega arith) (omega arith) in omega arith)
-    (cases_lt (i + c) p)
+anti_apart p i c h l n e = grind (arith, mod_at p 0 0 (i + c) (i + c), mod_at p 0 1 (i + c) (i + c - p))
 
 module _ {E : Type 0} (none : E) (p : ℕ) where
   pub unfolded_per : (X : ℕ → ℕ → E) (c : ℕ) → Per p (unfolded none p X c)
   unfolding unfolded
-  unfolded_per X c i = ap (λ n. cond (eqb n (p - 1)) (diagonal_parity none X c) (datum none p X n c)) (add-mod_right i p)
+  unfolded_per X c i = simp add-mod_right
 
   pub at_last_per : (e : E) → Per p (at_last none p e)
   unfolding at_last
-  at_last_per e i = ap (λ n. cond (eqb n (p - 1)) e none) (add-mod_right i p)
+  at_last_per e i = simp add-mod_right
 
   -- at p - 1, and elsewhere
   pub unfolded_top : (X : ℕ → ℕ → E) (c i : ℕ) → i % p ≡ p - 1 → unfolded none p X c i ≡ diagonal_parity none X c
   unfolding unfolded
-  unfolded_top X c i e = cond-true (eqb (i % p) (p - 1)) (diagonal_parity none X c) (datum none p X (i % p) c) (eq-eqb (i % p) (p - 1) e)
+  unfolded_top X c i e = grind (arith, nat_tests)
 
   pub unfolded_off : (X : ℕ → ℕ → E) (c i : ℕ) → (i % p ≡ p - 1 → ⊥) → unfolded none p X c i ≡ datum none p X (i % p) c
   unfolding unfolded
-  unfolded_off X c i e = cond-false (eqb (i % p) (p - 1)) (diagonal_parity none X c) (datum none p X (i % p) c) (ne_eqb (i % p) (p - 1) e)
+  unfolded_off X c i e = grind (arith, nat_tests)
 
   pub at_last_top : (e : E) (i : ℕ) → i % p ≡ p - 1 → at_last none p e i ≡ e
   unfolding at_last
-  at_last_top e i h = cond-true (eqb (i % p) (p - 1)) e none (eq-eqb (i % p) (p - 1) h)
+  at_last_top e i h = grind (arith, nat_tests)
 
   pub at_last_off : (e : E) (i : ℕ) → (i % p ≡ p - 1 → ⊥) → at_last none p e i ≡ none
   unfolding at_last
-  at_last_off e i h = cond-false (eqb (i % p) (p - 1)) e none (ne_eqb (i % p) (p - 1) h)
+  at_last_off e i h = grind (arith, nat_tests)
 
   -- in a row that exists
   pub unfolded_at : (X : ℕ → ℕ → E) (c r : ℕ) → r < p - 1 → unfolded none p X c r ≡ datum none p X r c
-  unfolded_at X c r h =
-      let e : r % p ≡ r = mod_at p 0 0 r r (omega arith) refl in
-      unfolded_off X c r (omega arith) ∙ ap (λ n. datum none p X n c) e
+  unfolded_at X c r h = let e : r % p ≡ r = mod-eq_of_lt (omega arith) in cc (unfolded_off X c r (omega arith))
 
   -- no data in a cell of parity
   datum_parity : (X : ℕ → ℕ → E) (r c : ℕ) → (Data p r c → ⊥) → datum none p X r c ≡ none
@@ -82,62 +74,41 @@ module _ {E : Type 0} (none : E) (p : ℕ) where
       unfolded_at X (suc c) (p - 1 - suc c) (omega arith)
       ∙ datum_parity X (p - 1 - suc c) (suc c) (λ d. d.antidiagonal (omega arith))
 
-  -- where column 0 has zero
-  past_zero : (c : ℕ) (x y : E) → ((c ≡ 0 → ⊥) → x ≡ y) → cond (eqb c 0) none x ≡ cond (eqb c 0) none y
-  past_zero zero x y e = refl
-  past_zero (suc c) x y e = ap (cond (eqb (suc c) 0) none) (e (omega arith))
-
   -- the same cells, the same columns
   pub unfolded_same : (X Y : ℕ → ℕ → E) (c : ℕ) → c < p → ((r : ℕ) → r < p - 1 → X r c ≡ Y r c) → (i : ℕ) → unfolded none p X c i ≡ unfolded none p Y c i
+  unfolding unfolded
   unfolded_same X Y c h e i =
-      ⊎_elim
-      (λ t. unfolded_top X c i t ∙ past_zero c (X (c - 1) c) (Y (c - 1) c) (λ n. e (c - 1) (omega arith)) ∙ sym (unfolded_top Y c i t))
-      (λ t. unfolded_off X c i t ∙ datum_same none p X Y (i % p) c (λ d. e (i % p) (data_facts p (i % p) c d).row) ∙ sym (unfolded_off Y c i t))
-      (cases_eq (i % p) (p - 1))
+      grind (arith, nat_tests, e (c - 1), datum_same none p X Y (i % p) c (λ d. e (i % p) (data_facts p (i % p) c d).row))
 
   pub excess_same : (join : E → E → E) (X Y : ℕ → ℕ → E) (c : ℕ) → c < p → ((r : ℕ) → r < p - 1 → X r c ≡ Y r c) → excess none join p X c ≡ excess none join p Y c
   unfolding excess
-  excess_same join X Y c h e =
-      past_zero c (join (X (c - 1) c) (X (p - 1 - c) c)) (join (Y (c - 1) c) (Y (p - 1 - c) c))
-      (λ n. ap (λ x. join x (X (p - 1 - c) c)) (e (c - 1) (omega arith)) ∙ ap (join (Y (c - 1) c)) (e (p - 1 - c) (omega arith)))
+  excess_same join X Y c h e = grind (arith, nat_tests, e (c - 1), e (p - 1 - c))
 
   -- the reflection keeps p - 1 and what is not
   pub at_last_even : 0 < p → (e : E) (i : ℕ) → at_last none p e (opposite p i) ≡ at_last none p e i
+  unfolding at_last
   at_last_even pos e i =
       let low : i % p < p = mod-lt i pos in
-      ⊎_elim
-      (λ (t : i % p ≡ p - 1). at_last_top e (opposite p i) (mod_at p 0 0 (opposite p i) (p - 1) (omega arith) (omega arith)) ∙ sym (at_last_top e i t))
-      (λ (t : i % p ≡ p - 1 → ⊥).
-      let m : opposite p i % p ≡ p - 2 - i % p = mod_at p 0 1 (opposite p i) (p - 2 - i % p) (omega arith) (omega arith) in
-      at_last_off e (opposite p i) (omega arith) ∙ sym (at_last_off e i t))
-      (cases_eq (i % p) (p - 1))
+      grind (arith, nat_tests, mod_at p 0 0 (opposite p i) (p - 1), mod_at p 0 1 (opposite p i) (p - 2 - i % p))
 
 module _ {E : Type 0} (none : E) (join : E → E → E) (p : ℕ) (X : ℕ → ℕ → E) (c : ℕ) where
   pub anti_per : Per p (unfolded_anti none join p X c)
-  anti_per i =
-      ap (λ x. join x (at_last none p (excess none join p X c) (i + p))) (unfolded_per none p X c i)
-      ∙ ap (join (unfolded none p X c i)) (at_last_per none p (excess none join p X c) i)
+  anti_per i = cc (unfolded_per none p X c i, at_last_per none p (excess none join p X c) i)
 
   pub folded_per : Per p (folded none join p X c)
-  folded_per i =
-      ap (λ x. join x (unfolded_anti none join p X c (opposite p (i + p)))) (unfolded_per none p X c i)
-      ∙ ap (λ n. join (unfolded none p X c i) (unfolded_anti none join p X c (p + p - 2 - n))) (add-mod_right i p)
+  folded_per i = cc (unfolded_per none p X c i, add-mod_right i p)
 
 module _ {E : Type 0} {none : E} {join : E → E → E} (laws : Laws none join) (p : ℕ) (X : ℕ → ℕ → E) where
   -- off p - 1 the antidiagonals see the same column
   pub anti_off : (c i : ℕ) → (i % p ≡ p - 1 → ⊥) → unfolded_anti none join p X c i ≡ unfolded none p X c i
-  anti_off c i e =
-      ap (join (unfolded none p X c i)) (at_last_off none p (excess none join p X c) i e) ∙ right laws (unfolded none p X c i)
+  anti_off c i e = cc (at_last_off none p (excess none join p X c) i e, right laws (unfolded none p X c i))
 
   anti_top : (c i : ℕ) → i % p ≡ p - 1 → (c ≡ 0 → ⊥) → unfolded_anti none join p X c i ≡ X (p - 1 - c) c
   unfolding excess
   anti_top c i e n =
-      let past = ne_eqb c 0 n in
-      ap (λ y. join y (at_last none p (excess none join p X c) i))
-      (unfolded_top none p X c i e ∙ cond-false (eqb c 0) none (X (c - 1) c) past)
-      ∙ ap (join (X (c - 1) c))
-      (at_last_top none p (excess none join p X c) i e ∙ cond-false (eqb c 0) none (join (X (c - 1) c) (X (p - 1 - c) c)) past)
-      ∙ solve laws (X (c - 1) c ∷ X (p - 1 - c) c ∷ []) (v 0 ⊕ (v 0 ⊕ v 1)) (v 1) tt
+      let L = at_last none p (excess none join p X c) i in
+      solveBy laws (unfolded none p X c i ∷ L ∷ X (c - 1) c ∷ X (p - 1 - c) c ∷ []) (v 0 ⊕ v 1) (v 3) ((v 0 ≐ v 2) ∷ (v 1 ≐ v 2 ⊕ v 3) ∷ []) tt
+      (unfolded_top none p X c i e ∙ grind (arith, nat_tests), (at_last_top none p (excess none join p X c) i e ∙ grind (arith, nat_tests), tt))
 
   anti_zero : (c : ℕ) → c < p → unfolded_anti none join p X c (p - 1 + c) ≡ none
   unfolding excess
@@ -167,32 +138,13 @@ module _ {E : Type 0} {none : E} {join : E → E → E} (laws : Laws none join) 
       ∙ solveBy laws (U (p - 1) ∷ at_last none p e (p - 1) ∷ e ∷ []) (v 0 ⊕ (v 0 ⊕ v 1)) (v 2) ((v 1 ≐ v 2) ∷ []) tt
       (at_last_top none p e (p - 1) (mod-eq_of_lt (omega arith)), tt)
 
-  pub folded_even : (c i : ℕ) → 0 < p → folded none join p X c (opposite p i) ≡ folded none join p X c i
-  folded_even c i pos =
-      let U = unfolded none p X c in
-      let L = at_last none p (excess none join p X c) in
-      let low : i % p < p = mod-lt i pos in
-      let m : opposite p i + (i % p) + 2 ≡ 2 * p = omega arith in
-      ap (join (U (opposite p i)))
-      (opposite_at p (unfolded_anti none join p X c) (anti_per none join p X c) pos 2 (opposite p i) (i % p) m
-      ∙ per_mod p (unfolded_anti none join p X c) (anti_per none join p X c) i)
-      ∙ solveBy laws (U (opposite p i) ∷ U i ∷ L (opposite p i) ∷ L i ∷ []) (v 0 ⊕ (v 1 ⊕ v 3)) (v 1 ⊕ (v 0 ⊕ v 2)) ((v 2 ≐ v 3) ∷ []) tt
-      (at_last_even none p pos (excess none join p X c) i, tt)
-
 module _ {E : Type 0} {none : E} {join : E → E → E} (laws : Laws none join) where
   -- two sums that differ in one term, which is zero in the second
   sum_other : (n k : ℕ) (f h : ℕ → E) → k < n → h k ≡ none → ((i : ℕ) → i < n → (i ≡ k → ⊥) → f i ≡ h i) → join_below none join n f ≡ join (f k) (join_below none join n h)
   sum_other n k f h l z e =
       let rest = join_below none join n (except none (λ m. eqb m k) h) in
       sum_take laws n k f l
-      ∙ ap (join (f k)) (join_same none join n _ _ (λ i b. others i b) ∙ sym (laws.neutral rest) ∙ ap (λ x. join x rest) (sym z) ∙ sym (sum_take laws n k h l))
-    where
-      others : (i : ℕ) → i < n → except none (λ m. eqb m k) f i ≡ except none (λ m. eqb m k) h i
-      others i b =
-          ⊎_elim
-          (λ t. cond-true (eqb i k) none (f i) (eq-eqb i k t) ∙ sym (cond-true (eqb i k) none (h i) (eq-eqb i k t)))
-          (λ t. ap (cond (eqb i k) none) (e i b t))
-          (cases_eq i k)
+      ∙ ap (join (f k)) (join_same none join n _ _ (λ i b. grind (arith, nat_tests, e i b)) ∙ sym (laws.neutral rest) ∙ ap (λ x. join x rest) (sym z) ∙ sym (sum_take laws n k h l))
 
   -- the last term of a turn
   pub sum_last : (p : ℕ) (f : ℕ → E) → 0 < p → join_below none join p f ≡ join (join_below none join (p - 1) f) (f (p - 1))
@@ -214,9 +166,7 @@ module _ {E : Type 0} {none : E} {join : E → E → E} (laws : Laws none join) 
       (λ (t : i ≡ p - 1 → ⊥).
       let top : (i + (p - (i + 1))) % p ≡ p - 1 = mod_at p 0 0 (i + (p - (i + 1))) (p - 1) (omega arith) (omega arith) in
       let parity : unfolded none p X (i + 1) (i + (p - (i + 1))) ≡ X i (i + 1) =
-      unfolded_top none p X (i + 1) (i + (p - (i + 1))) top
-      ∙ cond-false (eqb (i + 1) 0) none (X (i + 1 - 1) (i + 1)) (ne_eqb (i + 1) 0 (omega arith))
-      ∙ ap (λ n. X n (i + 1)) (omega arith) in
+      unfolded_top none p X (i + 1) (i + (p - (i + 1))) top ∙ grind (arith, nat_tests) in
       sum_other laws p (i + 1) _ (λ c. datum none p X ((i + (p - c)) % p) c) (omega arith)
       (datum_parity none p X ((i + (p - (i + 1))) % p) (i + 1) (λ d. omega (arith, d.row)))
       (λ c l n. unfolded_off none p X c (i + (p - c)) (diagonal_apart p i c (omega arith) l n))

@@ -1,11 +1,12 @@
 -- The laws of finite joins.
 use Rattle.std.proofs.Common.{◌≡◌, ℕ, zero, suc, ◌+◌, ◌/◌, ◌%◌, ◌<◌, eqb, [], ◌∷◌, sym, refl, ap, ◌∙◌, ⊎_elim, not-suc-le-zero, add-zero, zero-add, arith}
-use Rattle.std.proofs.lemmas.Bool.{cases_eq, eq-eqb, ne_eqb, cond-true, cond-false}
+use Rattle.std.proofs.lemmas.Bool.Decides.{nat_tests}
+use Rattle.std.proofs.lemmas.Bool.{cases_eq}
 use Rattle.tip_element.specs.Laws.{Laws}
 use Rattle.tip_element.specs.Counts.{join_below}
-use Rattle.tip_element.proofs.Joins.{join_same, right}
+use Rattle.tip_element.proofs.Joins.{join_same}
 use Rattle.tip_algebra.specs.Known.{except}
-use Rattle.tip_algebra.proofs.Group.{o, v, ◌⊕◌, solve, middle}
+use Rattle.tip_algebra.proofs.Group.{o, v, ◌⊕◌, middle, ◌≐◌, solveBy}
 
 module _ {E : Type 0} {none : E} {join : E → E → E} (laws : Laws none join) where
   pub sum_join : (n : ℕ) (f h : ℕ → E) → join_below none join n (λ i. join (f i) (h i)) ≡ join (join_below none join n f) (join_below none join n h)
@@ -21,24 +22,16 @@ module _ {E : Type 0} {none : E} {join : E → E → E} (laws : Laws none join) 
   pub sum_zero : (n : ℕ) (f : ℕ → E) → ((i : ℕ) → i < n → f i ≡ none) → join_below none join n f ≡ none
   sum_zero n f e = join_same none join n f (λ _. none) e ∙ sum_none n
 
-  except_other : (k : ℕ) (f : ℕ → E) (i : ℕ) → (i ≡ k → ⊥) → f i ≡ except none (λ m. eqb m k) f i
-  except_other k f i h = sym (cond-false (eqb i k) none (f i) (ne_eqb i k h))
-
-  except_same : (k : ℕ) (f : ℕ → E) → except none (λ m. eqb m k) f k ≡ none
-  except_same k f = cond-true (eqb k k) none (f k) (eq-eqb k k refl)
-
   pub sum_take : (n : ℕ) (k : ℕ) (f : ℕ → E) → k < n → join_below none join n f ≡ join (f k) (join_below none join n (except none (λ m. eqb m k) f))
   sum_take zero k f h = absurd (not-suc-le-zero h)
   sum_take (suc n) k f h =
+      let rest = except none (λ m. eqb m k) f in
+      let atoms = join_below none join n f ∷ join_below none join n rest ∷ f n ∷ f k ∷ rest n ∷ [] in
       ⊎_elim
-      (λ e. ap (λ x. join x (f n)) (join_same none join n f (except none (λ m. eqb m k) f) (λ i l. except_other k f i (omega arith)))
-      ∙ solve laws (join_below none join n (except none (λ m. eqb m k) f) ∷ f n ∷ []) (v 0 ⊕ v 1) (v 1 ⊕ (v 0 ⊕ o)) tt
-      ∙ ap (λ (x : E). join (f n) (join (join_below none join n (except none (λ m. eqb m k) f)) x)) (sym (ap (λ m. except none (λ m. eqb m k) f m) e ∙ except_same k f))
-      ∙ ap (λ m. join (f m) (join (join_below none join n (except none (λ m. eqb m k) f)) (except none (λ m. eqb m k) f n))) e)
-      (λ e. let l : k < n = omega arith in
-      ap (λ x. join x (f n)) (sum_take n k f l)
-      ∙ solve laws (f k ∷ join_below none join n (except none (λ m. eqb m k) f) ∷ f n ∷ []) ((v 0 ⊕ v 1) ⊕ v 2) (v 0 ⊕ (v 1 ⊕ v 2)) tt
-      ∙ ap (λ (x : E). join (f k) (join (join_below none join n (except none (λ m. eqb m k) f)) x)) (except_other k f n e))
+      (λ e. solveBy laws atoms (v 0 ⊕ v 2) (v 3 ⊕ (v 1 ⊕ v 4)) ((v 0 ≐ v 1) ∷ (v 2 ≐ v 3) ∷ (v 4 ≐ o) ∷ []) tt
+      (join_same none join n f rest (λ i l. grind (arith, nat_tests)), (ap f e, (grind (arith, nat_tests), tt))))
+      (λ e. solveBy laws atoms (v 0 ⊕ v 2) (v 3 ⊕ (v 1 ⊕ v 4)) ((v 0 ≐ v 3 ⊕ v 1) ∷ (v 2 ≐ v 4) ∷ []) tt
+      (sum_take n k f (omega arith), (grind (arith, nat_tests), tt)))
       (cases_eq n k)
 
   pub sum_swap : (n m : ℕ) (f : ℕ → ℕ → E) → join_below none join n (λ i. join_below none join m (λ j. f i j)) ≡ join_below none join m (λ j. join_below none join n (λ i. f i j))
@@ -55,11 +48,8 @@ module _ {E : Type 0} {none : E} {join : E → E → E} (laws : Laws none join) 
 
   sum_shift1 : (n : ℕ) (f : ℕ → E) → f n ≡ f 0 → join_below none join n (λ i. f (suc i)) ≡ join_below none join n f
   sum_shift1 n f e =
-      let a = join_below none join n (λ i. f (suc i)) in
-      let b = join_below none join n f in
-      let h : join (f 0) a ≡ join b (f 0) = sym (sum_front n f) ∙ ap (join b) e in
-      solve laws (a ∷ f 0 ∷ []) (v 0) (v 1 ⊕ (v 1 ⊕ v 0)) tt ∙ ap (join (f 0)) h
-      ∙ solve laws (b ∷ f 0 ∷ []) (v 1 ⊕ (v 0 ⊕ v 1)) (v 0) tt
+      solveBy laws (join_below none join n (λ i. f (suc i)) ∷ join_below none join n f ∷ f 0 ∷ f n ∷ []) (v 0) (v 1)
+      ((v 1 ⊕ v 3 ≐ v 2 ⊕ v 0) ∷ (v 3 ≐ v 2) ∷ []) tt (sum_front n f, (e, tt))
 
   -- a join_below over a whole period, from any index on
   pub sum_shift : (n k : ℕ) (f : ℕ → E) → ((i : ℕ) → f (i + n) ≡ f i) → join_below none join n (λ i. f (i + k)) ≡ join_below none join n f
@@ -74,12 +64,9 @@ module _ {E : Type 0} {none : E} {join : E → E → E} (laws : Laws none join) 
   sum_even zero c = refl
   sum_even (suc k) c =
       let e : suc k + suc k ≡ suc (suc (k + k)) = omega arith in
-      ap (λ n. join_below none join n (λ _. c)) e
-      ∙ laws.assoc (join_below none join (k + k) (λ _. c)) c c
-      ∙ ap (join (join_below none join (k + k) (λ _. c))) (laws.cancel c)
-      ∙ right laws (join_below none join (k + k) (λ _. c)) ∙ sum_even k c
+      rw e (cc (sum_even k c, laws.neutral c, laws.cancel c))
 
   pub sum_odd : (n : ℕ) (c : E) → n % 2 ≡ 1 → join_below none join n (λ _. c) ≡ c
   sum_odd n c h =
       let e : n ≡ suc (n / 2 + n / 2) = omega arith in
-      ap (λ m. join_below none join m (λ _. c)) e ∙ ap (λ x. join x c) (sum_even (n / 2) c) ∙ laws.neutral c
+      rw e (cc (sum_even (n / 2) c, laws.neutral c))

@@ -1,11 +1,12 @@
 -- The encoding exists and is the only one; which stop an encode gets.
-use Rattle.std.proofs.Common.{◌≡◌, ℕ, ◌+◌, ◌-◌, ◌<◌, ◌≤◌, Bool, true, false, cond, ◌&&◌, eqb, sym, refl, ap, ◌∙◌, ⊎_elim, arith}
-use Rattle.std.proofs.lemmas.Bool.{cond-true, cond-false, eq-eqb, ne_eqb, cases_Bool, eqb-true, eqb-false, and_parts, and_cases}
+use Rattle.std.proofs.Common.{◌≡◌, ℕ, ◌+◌, ◌-◌, ◌<◌, ◌≤◌, true, false, cond, ◌&&◌, eqb, sym, refl, ap, ◌∙◌, ⊎_elim, arith}
+use Rattle.std.proofs.lemmas.Bool.Decides.{nat_tests}
+use Rattle.std.proofs.lemmas.Bool.{cond-true, cond-false, cases_Bool, eqb-false, and_cases, false_from_ne_true}
 use Rattle.tip_code.specs.Encoding.{line_join, Encodes, encoding, OneEncoding, EncodeStop, values_length, cells_length}
 use Rattle.tip_code.specs.Geometry.{cells_in, places_in}
 use Rattle.tip_code.specs.Places.{Place, place_number}
 use Rattle.tip_code.specs.Primes.{listed}
-use Rattle.tip_code.specs.Stops.{number, First}
+use Rattle.tip_code.specs.Stops.{First}
 use Rattle.tip_code.specs.Stripe.{data_cell, parity_column}
 use Rattle.tip_code.specs.declared.chain.Direction.{Direction}
 use Rattle.tip_code.specs.declared.chain.Direction.TheVariants.{Row, Diagonal, Antidiagonal}
@@ -22,10 +23,7 @@ module _ {E : Type 0} (none : E) (join : E → E → E) (p : ℕ) (t : listed p 
   chosen r c = cond (eqb c p) Row (cond (eqb c (r + 1)) Diagonal Antidiagonal)
 
   chosen_right : (d : Direction) (i : ℕ) → i < p - 1 → chosen i (parity_column p d i) ≡ d
-  chosen_right Row i h = rw (eq-eqb p p refl)
-  chosen_right Diagonal i h = rw (ne_eqb (i + 1) p (omega arith), eq-eqb (i + 1) (i + 1) refl)
-  chosen_right Antidiagonal i h =
-      rw (ne_eqb (p - 1 - i) p (omega arith), ne_eqb (p - 1 - i) (i + 1) (omega (arith, (prime_facts p t).odd)))
+  chosen_right d i h = grind (arith, nat_tests, h, (prime_facts p t).odd)
 
   encoding_data : (f : ℕ → E) (r c : ℕ) → data_cell p r c ≡ true → encoding none join p f r c ≡ f (place_number p r c)
   unfolding encoding
@@ -35,13 +33,9 @@ module _ {E : Type 0} (none : E) (join : E → E → E) (p : ℕ) (t : listed p 
   unfolding encoding
   encoding_parity f d i h =
       cond-false (data_cell p i (parity_column p d i)) _ _
-      (data_off (data_cell p i (parity_column p d i)) refl)
+      (false_from_ne_true _ (λ e. parity_no_data p d i (parity_column p d i) e refl))
       ∙ ap (λ k. line_join none join p (λ s q. f (place_number p s q)) k i) (chosen_right d i h)
       ∙ line_same none join p (λ s q. f (place_number p s q)) (encoding none join p f) d i (λ r c x. sym (encoding_data f r c x))
-    where
-      data_off : (b : Bool) → data_cell p i (parity_column p d i) ≡ b → data_cell p i (parity_column p d i) ≡ false
-      data_off true e = absurd (parity_no_data p d i (parity_column p d i) e refl)
-      data_off false e = e
 
   exists : (f : ℕ → E) → Encodes none join p f (encoding none join p f)
   exists f = record {
@@ -73,19 +67,7 @@ module _ {E : Type 0} (none : E) (join : E → E → E) (p : ℕ) (t : listed p 
 
 module _ (p m n : ℕ) where
   pub encode_first : (eqb m (places_in p) && eqb n (cells_in p)) ≡ false → First (EncodeStop p m n) stop.Length
-  encode_first h = record { this = ⊎_elim (λ e. values_length (eqb-false m (places_in p) e)) (λ e. cells_length (eqb-false n (cells_in p) e)) (and_cases _ _ h); lower = λ t l f. under f l }
-    where
-      under : {t : Stop} → EncodeStop p m n t → number t < 3 → ⊥
-      under (values_length h) l = omega arith
-      under (cells_length h) l = omega arith
-
-  -- the two lengths, where the test passes
-  pub lengths : (eqb m (places_in p) && eqb n (cells_in p)) ≡ true → (m ≡ places_in p) × (n ≡ cells_in p)
-  lengths h = let both = and_parts _ _ h in (eqb-true m (places_in p) both.0, eqb-true n (cells_in p) both.1)
+  encode_first h = record { this = ⊎_elim (λ e. values_length (eqb-false m (places_in p) e)) (λ e. cells_length (eqb-false n (cells_in p) e)) (and_cases _ _ h); lower = λ t f l. grind arith }
 
   pub encode_none : (eqb m (places_in p) && eqb n (cells_in p)) ≡ true → (t : Stop) → EncodeStop p m n t → ⊥
-  encode_none e t f = under f
-    where
-      under : {t : Stop} → EncodeStop p m n t → ⊥
-      under (values_length h) = h (lengths e).0
-      under (cells_length h) = h (lengths e).1
+  encode_none e t f = grind (arith, nat_tests, e, f)

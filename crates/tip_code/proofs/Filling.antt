@@ -15,15 +15,11 @@ use Rattle.tip_code.proofs.Tables.{prime_facts}
 
 -- a parity stands in a column of the stripe
 pub parity_column_le : (p : ℕ) (d : Direction) (i : ℕ) → i < p - 1 → parity_column p d i ≤ p
-parity_column_le p Row i h = omega arith
-parity_column_le p Diagonal i h = omega arith
-parity_column_le p Antidiagonal i h = omega arith
+parity_column_le p d i h = grind (arith, h)
 
 -- and holds no data
 pub parity_no_data : (p : ℕ) (d : Direction) (r c : ℕ) → data_cell p r c ≡ true → c ≡ parity_column p d r → ⊥
-parity_no_data p Row r c t e = let f = data_facts p r c t in omega (arith, f.column)
-parity_no_data p Diagonal r c t e = (data_facts p r c t).diagonal e
-parity_no_data p Antidiagonal r c t e = (data_facts p r c t).antidiagonal e
+parity_no_data p d r c t e = grind (arith, data_facts p r c t, e)
 
 module _ {E : Type 0} (none : E) (p : ℕ) (xs : List E) (v : E) where
   -- one cell is set

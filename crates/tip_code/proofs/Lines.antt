@@ -1,19 +1,20 @@
 -- Lines and the cells on them.
-use Rattle.std.proofs.Common.{◌≡◌, ℕ, ◌+◌, ◌-◌, ◌%◌, ◌<◌, Bool, true, not, ◌||◌, ltb, sym, refl, ap, ◌∙◌, ⊎_elim, arith}
-use Rattle.std.proofs.lemmas.Bool.{or_cases, not-true, both_ways, ltb-true}
+use Rattle.std.proofs.Common.{◌≡◌, ℕ, ◌+◌, ◌-◌, ◌%◌, ◌<◌, Bool, true, not, ◌||◌, ltb, sym, refl, ap, ◌∙◌, arith}
+use Rattle.std.specs.List.{list_all}
+use Rattle.std.proofs.lemmas.Bool.{ltb-true}
 use Rattle.tip_code.specs.Primes.{primes, listed}
 use Rattle.tip_code.specs.Stripe.{data_cell, line_of, crossing, Lines}
 use Rattle.tip_code.specs.declared.chain.Direction.{Direction}
 use Rattle.tip_code.specs.declared.chain.Direction.TheVariants.{Row, Diagonal, Antidiagonal}
 use Rattle.tip_code.proofs.Cells.{data_facts}
 use Rattle.tip_code.proofs.Remainders.{turned}
-use Rattle.tip_code.proofs.Tables.{all_below, all_at, each, prime_at}
+use Rattle.tip_code.proofs.Tables.{all_below, all_at, implied, prime_at}
 
 -- the line of each data cell has a parity
 abbrev has_parity : Direction → ℕ → Bool
 has_parity d p = all_below (p - 1) (λ r. all_below p (λ c. not (data_cell p r c) || ltb (line_of p d r c) (p - 1)))
 
-parity_table : (d : Direction) → each (has_parity d) primes ≡ true
+parity_table : (d : Direction) → list_all (has_parity d) primes ≡ true
 unfolding data_cell
 parity_table Row = refl
 parity_table Diagonal = refl
@@ -34,7 +35,7 @@ module _ (p : ℕ) (t : listed p ≡ true) where
   one d r c x =
       let f = data_facts p r c x in
       let here = all_at p _ (all_at (p - 1) _ (prime_at (has_parity d) (parity_table d) p t) r f.row) c f.column in
-      ltb-true _ _ (⊎_elim (λ e. absurd (both_ways (data_cell p r c) (not-true _ e) x)) (λ e. e) (or_cases _ _ here))
+      ltb-true _ _ (implied (data_cell p r c) _ here x)
 
   pub lines : Lines p
   lines = record {

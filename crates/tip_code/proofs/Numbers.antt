@@ -1,17 +1,19 @@
 -- The numbering of places: its facts are computed over the table of primes.
-use Rattle.std.proofs.Common.{◌≡◌, ℕ, zero, suc, ◌+◌, ◌-◌, ◌*◌, ◌/◌, ◌%◌, ◌<◌, ◌≤◌, min, max, Bool, true, false, cond, not, ◌&&◌, ◌||◌, eqb, ltb, sym, refl, ap, ◌∙◌, subst, ⊎_elim, suc-mul, mul_comm, zero-mul, arith}
-use Rattle.std.proofs.lemmas.Nat.{mul-add-lt, div-mul-add, mod-mul-add, div_below, mod_below, div-add-mod'}
-use Rattle.std.proofs.lemmas.Bool.{and_parts, or_cases, ltb-true, eqb-true, ltb-false, not-true, cond_both, both_ways}
+use Rattle.std.proofs.Common.{◌≡◌, ℕ, zero, suc, ◌+◌, ◌-◌, ◌*◌, ◌/◌, ◌%◌, ◌<◌, ◌≤◌, min, max, Bool, true, false, cond, not, ◌&&◌, ◌||◌, eqb, ltb, sym, refl, ap, ◌∙◌, subst, suc-mul, mul_comm, zero-mul, arith}
+use Rattle.std.specs.List.{list_all}
+use Rattle.std.proofs.lemmas.Nat.{mul-add-lt, same_from_place, div_below, mod_below, div-add-mod'}
+use Rattle.std.proofs.lemmas.Bool.Decides.{nat_tests}
+use Rattle.std.proofs.lemmas.Bool.{and_parts, ltb-true, eqb-true, ltb-false}
 use Rattle.tip_element.specs.Counts.{join_below, count_below}
 use Rattle.tip_code.specs.Geometry.{places_in}
 use Rattle.tip_code.specs.Places.{Place, place_number, Numbering, PlaceStop, no_place}
 use Rattle.tip_code.specs.Primes.{primes, listed}
-use Rattle.tip_code.specs.Stops.{number, First}
+use Rattle.tip_code.specs.Stops.{First}
 use Rattle.tip_code.specs.Stripe.{data_cell}
 use Rattle.tip_code.specs.declared.stop.Stop.{Stop}
 use Rattle.tip_code.specs.declared.stop.Stop.TheVariants as stop
 use Rattle.tip_code.proofs.Cells.{data_facts}
-use Rattle.tip_code.proofs.Tables.{all_below, all_at, each, prime_at, prime_facts}
+use Rattle.tip_code.proofs.Tables.{all_below, all_at, implied, prime_at, prime_facts}
 
 -- how many data cells of row r stand to the left of column c
 abbrev left : ℕ → ℕ → ℕ → ℕ
@@ -39,20 +41,20 @@ found_by p =
     all_below (p - 1) (λ r. all_below p (λ c. not (data_cell p r c)
     || (ltb (left p r c) (p - 2) && eqb (column_at p r (left p r c)) c)))
 
-full_table : each full primes ≡ true
+full_table : list_all full primes ≡ true
 unfolding data_cell
 full_table = refl
 
-finds_table : each finds primes ≡ true
+finds_table : list_all finds primes ≡ true
 unfolding data_cell
 finds_table = refl
 
-found_table : each found_by primes ≡ true
+found_table : list_all found_by primes ≡ true
 unfolding data_cell
 found_table = refl
 
 pub skip_is : (k h m : ℕ) → (k < h → m ≡ k) → (h ≤ k → m ≡ k + 1) → m ≡ skipped k h
-skip_is k h m low high = cond_both (ltb k h) k (k + 1) (λ x. m ≡ x) (λ e. low (ltb-true k h e)) (λ e. high (ltb-false k h e))
+skip_is k h m low high = grind (arith, nat_tests, low, high)
 
 module _ (p : ℕ) (t : listed p ≡ true) where
   row_full : (r : ℕ) → r < p - 1 → left p r p ≡ p - 2
@@ -69,7 +71,7 @@ module _ (p : ℕ) (t : listed p ≡ true) where
   found_at : (r c : ℕ) → data_cell p r c ≡ true → (left p r c < p - 2) × (column_at p r (left p r c) ≡ c)
   found_at r c d =
       let f = data_facts p r c d in
-      let both = and_parts _ _ (⊎_elim (λ e. absurd (both_ways (data_cell p r c) (not-true _ e) d)) (λ e. e) (or_cases _ _ (all_at p _ (all_at (p - 1) _ (prime_at found_by found_table p t) r f.row) c f.column))) in
+      let both = and_parts _ _ (implied (data_cell p r c) _ (all_at p _ (all_at (p - 1) _ (prime_at found_by found_table p t) r f.row) c f.column) d) in
       (ltb-true _ _ both.0, eqb-true _ _ both.1)
 
   rows_above : (r : ℕ) → r ≤ p - 1 → join_below 0 ◌+◌ r (λ i. left p i p) ≡ r * (p - 2)
@@ -95,9 +97,8 @@ module _ (p : ℕ) (t : listed p ≡ true) where
       let u = found_at r c x in
       let v = found_at s d y in
       let same : r * (p - 2) + left p r c ≡ s * (p - 2) + left p s d = sym (number_is r c f.row) ∙ e ∙ number_is s d g.row in
-      let rows : r ≡ s = sym (div-mul-add r (p - 2) (left p r c) u.0) ∙ ap (λ n. n / (p - 2)) same ∙ div-mul-add s (p - 2) (left p s d) v.0 in
-      let lefts : left p r c ≡ left p s d = sym (mod-mul-add r (p - 2) (left p r c) u.0) ∙ ap (λ n. n % (p - 2)) same ∙ mod-mul-add s (p - 2) (left p s d) v.0 in
-      (rows, sym u.1 ∙ ap (λ k. column_at p r k) lefts ∙ ap (λ q. column_at p q (left p s d)) rows ∙ v.1)
+      let both = same_from_place r (left p r c) s (left p s d) (p - 2) u.0 v.0 same in
+      (both.0, sym u.1 ∙ ap (λ k. column_at p r k) both.1 ∙ ap (λ q. column_at p q (left p s d)) both.0 ∙ v.1)
 
   -- a row and a number of data cells to the left, from a place
   pub place_row : (n : ℕ) → n < places_in p → n / (p - 2) < p - 1
@@ -125,13 +126,7 @@ module _ (p : ℕ) (t : listed p ≡ true) where
 -- which stop a place gets
 module _ (p n : ℕ) where
   pub place_first : ltb n (places_in p) ≡ false → First (PlaceStop p n) stop.Place
-  place_first h = record { this = no_place (ltb-false n (places_in p) h); lower = λ t l f. under f l }
-    where
-      under : {t : Stop} → PlaceStop p n t → number t < 11 → ⊥
-      under (no_place h) l = omega arith
+  place_first h = record { this = no_place (ltb-false n (places_in p) h); lower = λ t f l. grind arith }
 
   pub place_none : ltb n (places_in p) ≡ true → (t : Stop) → PlaceStop p n t → ⊥
-  place_none h t f = under f
-    where
-      under : {t : Stop} → PlaceStop p n t → ⊥
-      under (no_place l) = omega (arith, ltb-true n (places_in p) h)
+  place_none h t f = grind (arith, nat_tests, h, f)

@@ -1,9 +1,10 @@
 -- What is known of a geometry's prime; which stop a geometry that is asked for gets.
-use Rattle.std.proofs.Common.{◌≡◌, ℕ, ◌<◌, ◌≤◌, true, false, ◌&&◌, leb, ⊎_elim, arith}
-use Rattle.std.proofs.lemmas.Bool.{both_ways, and_parts, and_cases, leb-true, leb-false}
+use Rattle.std.proofs.Common.{◌≡◌, ℕ, true, false, ◌&&◌, leb, ⊎_elim, arith}
+use Rattle.std.proofs.lemmas.Bool.Decides.{nat_tests}
+use Rattle.std.proofs.lemmas.Bool.{and_cases, leb-false}
 use Rattle.tip_code.specs.Geometry.{prime_of, SizeStop, no_prime, no_stripe, too_many}
 use Rattle.tip_code.specs.Primes.{listed, PrimeFacts}
-use Rattle.tip_code.specs.Stops.{number, First}
+use Rattle.tip_code.specs.Stops.{First}
 use Rattle.tip_code.specs.declared.geometry.Geometry.{Geometry}
 use Rattle.tip_code.specs.declared.stop.Stop.{Stop}
 use Rattle.tip_code.specs.declared.stop.Stop.TheVariants as stop
@@ -14,31 +15,10 @@ facts g = prime_facts (prime_of g) g.prime.listed
 
 module _ (p n : ℕ) where
   pub size_prime : listed p ≡ false → First (SizeStop p n) stop.Prime
-  size_prime h = record { this = no_prime h; lower = λ t l f. under f l }
-    where
-      under : {t : Stop} → SizeStop p n t → number t < 1 → ⊥
-      under (no_prime h) l = omega arith
-      under (no_stripe h) l = omega arith
-      under (too_many h) l = omega arith
+  size_prime h = record { this = no_prime h; lower = λ t f l. grind arith }
 
   pub size_stripes : listed p ≡ true → (leb 1 n && leb n 4096) ≡ false → First (SizeStop p n) stop.Stripes
-  size_stripes t h = record { this = ⊎_elim (λ (e : leb 1 n ≡ false). no_stripe (omega (arith, leb-false 1 n e))) (λ e. too_many (leb-false n 4096 e)) (and_cases (leb 1 n) (leb n 4096) h); lower = λ s l f. under f l }
-    where
-      under : {s : Stop} → SizeStop p n s → number s < 2 → ⊥
-      under (no_prime h) l = both_ways (listed p) h t
-      under (no_stripe h) l = omega arith
-      under (too_many h) l = omega arith
+  size_stripes t h = record { this = ⊎_elim (λ e. no_stripe (omega (arith, leb-false 1 n e))) (λ e. too_many (leb-false n 4096 e)) (and_cases (leb 1 n) (leb n 4096) h); lower = λ s f l. grind (arith, t) }
 
   pub size_none : listed p ≡ true → (leb 1 n && leb n 4096) ≡ true → (s : Stop) → SizeStop p n s → ⊥
-  size_none t range s f = under f
-    where
-      low : 1 ≤ n
-      low = leb-true 1 n (and_parts (leb 1 n) (leb n 4096) range).0
-
-      high : n ≤ 4096
-      high = leb-true n 4096 (and_parts (leb 1 n) (leb n 4096) range).1
-
-      under : {s : Stop} → SizeStop p n s → ⊥
-      under (no_prime h) = both_ways (listed p) h t
-      under (no_stripe h) = omega (arith, low)
-      under (too_many h) = omega (arith, high)
+  size_none t range s f = grind (arith, nat_tests, t, range, f)

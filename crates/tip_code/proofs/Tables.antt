@@ -1,6 +1,11 @@
 -- Tests over ranges and over the table of primes: antt computes the test, these lemmas turn it into a fact at each entry.
-use Rattle.std.proofs.Common.{◌≡◌, ℕ, zero, suc, pred, ◌*◌, ◌%◌, ◌<◌, Bool, true, false, ◌&&◌, ◌||◌, eqb, leb, List, [], ◌∷◌, sym, refl, subst, ⊎_elim, not-suc-le-zero, arith}
-use Rattle.std.proofs.lemmas.Bool.{cases_eq, and_parts, or_cases, eqb-true, leb-true, true≢false}
+use Rattle.std.proofs.Common.{◌≡◌, ℕ, zero, suc, pred, ◌*◌, ◌%◌, ◌<◌, Bool, true, false, not, ◌&&◌, ◌||◌, eqb, leb, refl, ⊎_elim, not-suc-le-zero, arith}
+use Rattle.std.specs.Bool.{Decides}
+use Rattle.std.specs.List.{Contains, list_all}
+use Rattle.std.proofs.lemmas.Bool.{or_cases, not-true, both_ways, eqb-true, leb-true}
+use Rattle.std.proofs.lemmas.Bool.Decides.{Decides-eqb, Decides-by_or, Decides-below_and, Decides-below_or}
+use Rattle.std.proofs.lemmas.List.Elements.{All-contains, Decides-contains}
+use Rattle.std.proofs.lemmas.List.Sums.{AllPass-from_list_all}
 use Rattle.tip_code.specs.Primes.{primes, among, listed, PrimeFacts}
 
 -- the test passes at each number below n
@@ -13,39 +18,35 @@ abbrev pub any_below : ℕ → (ℕ → Bool) → Bool
 any_below zero f = false
 any_below (suc n) f = f n || any_below n f
 
--- at each number of a list
-abbrev pub each : (ℕ → Bool) → List ℕ → Bool
-each f [] = true
-each f (x ∷ xs) = f x && each f xs
+-- a test decides that it passes
+passes : (b : Bool) → Decides b (b ≡ true)
+passes b = (λ e. e, λ e. e)
 
 pub all_at : (n : ℕ) (f : ℕ → Bool) → all_below n f ≡ true → (i : ℕ) → i < n → f i ≡ true
-all_at zero f t i h = absurd (not-suc-le-zero h)
-all_at (suc n) f t i h =
-    let both = and_parts (f n) (all_below n f) t in
-    ⊎_elim (λ (e : n ≡ i). subst (λ (m : ℕ). f m ≡ true) e both.0) (λ e. all_at n f both.1 i (omega arith)) (cases_eq n i)
+all_at n f = (Decides-below_and f _ (λ m. all_below m f) (λ k. passes (f k)) refl (λ m. refl) n).0
 
 pub any_at : (n : ℕ) (f : ℕ → Bool) → any_below n f ≡ true → (k : ℕ) × (k < n) × (f k ≡ true)
-any_at zero f t = absurd (true≢false (sym t))
-any_at (suc n) f t =
-    ⊎_elim (λ here. (n, omega arith, here)) (λ below. let r = any_at n f below in (r.0, omega arith, r.2))
-    (or_cases (f n) (any_below n f) t)
+any_at n f = (Decides-below_or f _ (λ m. any_below m f) (λ k. passes (f k)) refl (λ m. refl) n).0
 
-pub each_at : (f : ℕ → Bool) (xs : List ℕ) (p : ℕ) → each f xs ≡ true → among p xs ≡ true → f p ≡ true
-each_at f [] p t h = absurd (true≢false (sym h))
-each_at f (x ∷ xs) p t h =
-    let both = and_parts (f x) (each f xs) t in
-    ⊎_elim (λ here. subst (λ (m : ℕ). f m ≡ true) (eqb-true x p here) both.0) (each_at f xs p both.1)
-    (or_cases (eqb x p) (among p xs) h)
+-- where one test passes, another does
+pub implied : (a b : Bool) → (not a || b) ≡ true → a ≡ true → b ≡ true
+implied a b t e = ⊎_elim (λ n. absurd (both_ways a (not-true a n) e)) (λ q. q) (or_cases (not a) b t)
+
+-- a listed number stands in the table
+stands : (p : ℕ) → listed p ≡ true → Contains primes p
+stands p h =
+    let by = Decides-by_or (λ q. eqb q p) (λ q. q ≡ p) (among p) (λ q. Decides-eqb q p) refl (λ q qs. refl) primes in
+    (Decides-contains primes p (listed p) by).0 h
 
 -- a test that passes over the whole table passes at each prime
-pub prime_at : (f : ℕ → Bool) → each f primes ≡ true → (p : ℕ) → listed p ≡ true → f p ≡ true
-prime_at f t p h = each_at f primes p t h
+pub prime_at : (f : ℕ → Bool) → list_all f primes ≡ true → (p : ℕ) → listed p ≡ true → f p ≡ true
+prime_at f t p h = All-contains (λ q. f q ≡ true) primes p (AllPass-from_list_all f primes t) (stands p h)
 
 -- each step u from 1 to p - 1, each residue i: some multiple of u is i
 abbrev reaches : ℕ → Bool
 reaches p = all_below (pred p) (λ u. all_below p (λ i. any_below p (λ k. eqb (k * suc u % p) i)))
 
-reach_table : each reaches primes ≡ true
+reach_table : list_all reaches primes ≡ true
 reach_table = refl
 
 reach : (p : ℕ) → listed p ≡ true → (u i : ℕ) → 0 < u → u < p → i < p → (k : ℕ) × (k < p) × (k * u % p ≡ i)

@@ -65,6 +65,7 @@ fn off_parity(prime: Prime, row: usize, column: usize) -> bool
 }
 
 /// Whether the cell holds data.
+#[tactic(auto, using(std::proofs::lemmas::Bool::Decides::nat_tests), unfolding(crate::specs::Stripe::data_cell))]
 pub(crate) fn is_data(prime: Prime, row: usize, column: usize) -> bool
     ensures { result ≡ data_cell prime.number row column }
 {
@@ -124,6 +125,7 @@ impl Direction {
 }
 
 /// Whether the cell holds data and lies on the line.
+#[tactic(auto, using(crate::proofs::Cells::data_facts))]
 fn on_line(prime: Prime, chain: Chain, cell: Cell) -> bool
     ensures { result ≡ covers prime.number chain.direction chain.line cell.row cell.column }
 {
@@ -132,6 +134,7 @@ fn on_line(prime: Prime, chain: Chain, cell: Cell) -> bool
 }
 
 /// The parity cell of the line through a data cell.
+#[tactic(auto, using(crate::proofs::Cells::data_facts))]
 fn parity_through(prime: Prime, cell: Cell, direction: Direction) -> Cell
     requires { data_cell prime.number cell.row cell.column ≡ true }
     ensures { result ≡ parity_cell prime.number direction (line_of prime.number direction cell.row cell.column) }
@@ -187,6 +190,7 @@ impl Geometry {
     }
 
     /// Whether the parity of the chain covers the cell.
+    #[tactic(auto, using(crate::proofs::Lines::lines))]
     pub fn covers(self, chain: Chain, cell: Cell) -> bool
         ensures value { result ≡ covers (prime_of self) chain.direction chain.line cell.row cell.column }
         ensures lines { Lines (prime_of self) }

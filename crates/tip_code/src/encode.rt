@@ -20,6 +20,7 @@ fn is_sized(geometry: Geometry, values: usize, cells: usize) -> bool
 /// Encodes a stripe: takes the elements of the (p - 1)(p - 2) places in their order, and fills a stripe buffer of
 /// (p - 1)(p + 1) elements. Every stripe has one encoding, and this is it.
 /// Stop 3: either has another length, and nothing is written.
+#[tactic(auto, using(crate::proofs::Encodings::one_encoding))]
 pub fn encode<E: Element>(geometry: Geometry, values: &[E], cells: &mut [E]) -> Result<(), Stop>
     ensures stop { Stopped (EncodeStop (prime_of geometry) (length values.now) (length cells.old)) result }
     ensures cells { MatchResult result (λ _. Encodes E.zero E.join (prime_of geometry) (λ n. get_or values.now n E.zero) (stripe_of E.zero (prime_of geometry) cells.new)) (λ _. cells.new ≡ cells.old) }

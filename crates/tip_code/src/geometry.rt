@@ -31,6 +31,7 @@ impl Geometry {
 
     /// The geometry for this prime and this number of stripes.
     /// Stop 1: p is not one of the ten primes. Stop 2: the stripe count is 0 or above 4,096.
+    #[tactic(auto, using(crate::proofs::Sizes::size_prime, crate::proofs::Sizes::size_stripes, crate::proofs::Sizes::size_none))]
     pub fn new(p: usize, stripes: usize) -> Result<Geometry, Stop>
         ensures stop { Stopped (SizeStop p stripes) result }
         ensures value { IfOk result (λ g. (prime_of g ≡ p) × (stripes_of g ≡ stripes)) }

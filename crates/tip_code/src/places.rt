@@ -53,6 +53,7 @@ fn has_place(geometry: Geometry, place: usize) -> bool
 impl Geometry {
     /// The cell of a place; each place is one cell, and each data cell one place.
     /// Stop 11: the place is not below (p - 1)(p - 2).
+    #[tactic(auto, using(crate::proofs::Numbers::numbering))]
     pub fn locate(self, place: usize) -> Result<Cell, Stop>
         ensures stop { Stopped (PlaceStop (prime_of self) place) result }
         ensures value { IfOk result (λ c. Place (prime_of self) place c.row c.column) }

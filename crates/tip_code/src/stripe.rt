@@ -24,6 +24,7 @@ impl<E: Element> Stripe<'_, E> {
     ghost use Rattle.tip_code.specs.Stripe.{stripe_of};
 
     /// The join of the data cells of a line.
+    #[tactic(auto, using(crate::proofs::Cells::data_facts))]
     pub(crate) fn line_join(&self, direction: Direction, line: usize) -> E
         requires { line < self.now.prime.number - 1 }
         ensures { result ≡ line_join E.zero E.join self.now.prime.number (cells_of E.zero self.now) direction line }
@@ -40,6 +41,7 @@ impl<E: Element> Stripe<'_, E> {
     }
 
     /// Puts each element into the cell of its place.
+    #[tactic(auto, using(crate::proofs::Cells::data_facts))]
     pub(crate) fn place_all(&mut self, values: &[E])
         requires { length values.now ≡ places_in self.old.prime.number }
         ensures same { SameBuffer self.old self.new }

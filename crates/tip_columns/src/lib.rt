@@ -37,6 +37,7 @@ fn ones_of(word: u64) -> u32
 
 impl Columns {
     /// The set with one column more, for which there is a bit.
+    #[tactic(auto, using(crate::proofs::Masks::bit_more))]
     fn and(self, column: usize) -> Columns
         requires { column < 64 }
         ensures { (n : ℕ) → in_set result n ≡ (n == column || in_set self n) }

@@ -1,7 +1,8 @@
 -- The set of places that a parity covers, place by place.
-use Rattle.std.proofs.Common.{◌≡◌, ℕ, ◌+◌, ◌-◌, ◌<◌, ◌≤◌, true, false, sym, refl, ap, ◌∙◌, subst, ⊎_elim, arith}
+use Rattle.std.proofs.Common.{◌≡◌, ℕ, ◌+◌, ◌-◌, ◌<◌, ◌≤◌, true, false, sym, ◌∙◌, arith}
+use borrow.Author.Count.{below_more}
 use Rattle.std.proofs.lemmas.Nat.{mul-le}
-use Rattle.std.proofs.lemmas.Bool.{cases_eq, eq-eqb, ne_eqb}
+use Rattle.std.proofs.lemmas.Bool.Decides.{nat_tests}
 use Rattle.tip_element.specs.Counts.{count_below}
 use Rattle.tip_cover.specs.Cover.{Cover}
 use Rattle.tip_code.specs.Geometry.{places_in}
@@ -12,7 +13,7 @@ use Rattle.tip_element.specs.Traces.{has, one_of, Just}
 use Rattle.tip_code.specs.declared.chain.Direction.{Direction}
 use Rattle.tip_element.specs.declared.trace.Trace.{Trace}
 use Rattle.tip_element.proofs.Bits.{count_same}
-use Rattle.tip_element.proofs.Sets.{count_on, count_off, one_of_same}
+use Rattle.tip_element.proofs.Sets.{count_on, count_off}
 use Rattle.tip_code.proofs.Numbers.{numbering}
 
 -- the numbers of places fit a trace
@@ -21,7 +22,7 @@ places_traced p h = mul-le (p - 1) (p - 2) 10 9 (omega arith) (omega arith)
 
 -- what stands after the places below m: a cover of these
 pub record Covered (p : ℕ) (d : Direction) (i m : ℕ) (t : Trace) (n : ℕ) : Type 0 where
-  pub each : (k r c : ℕ) → k < m → Place p k r c → has t k ≡ covers p d i r c
+  pub each : (k : ℕ) → k < m → (r c : ℕ) → Place p k r c → has t k ≡ covers p d i r c
   pub others : (k : ℕ) → m ≤ k → has t k ≡ false
   pub count : n ≡ count_below m (has t)
   pub bound : n ≤ m
@@ -30,36 +31,30 @@ module _ (p : ℕ) (l : listed p ≡ true) (d : Direction) (i : ℕ) where
   -- place m is not covered
   pub covered_same : (m n : ℕ) (t : Trace) → ((r c : ℕ) → Place p m r c → false ≡ covers p d i r c) → Covered p d i m t n → Covered p d i (m + 1) t n
   covered_same m n t off before = record {
-    each = λ k r c low here. ⊎_elim
-        (λ (same : k ≡ m). ap (has t) same ∙ before.others m (omega arith) ∙ off r c (subst (λ (j : ℕ). Place p j r c) same here))
-        (λ other. before.each k r c (omega arith) here)
-        (cases_eq k m);
+    each = below_more _ m before.each (λ r c at. before.others m (omega arith) ∙ off r c at);
     others = λ k h. before.others k (omega arith);
-    count = before.count ∙ sym (count_off m (has t) (before.others m (omega arith)));
-    bound = omega (arith, before.bound);
+    count = omega (arith, count_off m (has t) (before.others m (omega arith)));
+    bound = omega arith;
   }
 
   -- place m is covered
   pub covered_more : (m n : ℕ) (t u v : Trace) → ((r c : ℕ) → Place p m r c → true ≡ covers p d i r c) → Just m u → ((k : ℕ) → has v k ≡ one_of (has t k) (has u k)) → Covered p d i m t n → Covered p d i (m + 1) v (n + 1)
   covered_more m n t u v on just joined before = record {
-    each = λ k r c low here. ⊎_elim
-        (λ (same : k ≡ m). ap (has v) same ∙ new ∙ on r c (subst (λ (j : ℕ). Place p j r c) same here))
-        (λ other. old k other ∙ before.each k r c (omega arith) here)
-        (cases_eq k m);
+    each = below_more _ m (λ k low r c at. old k (omega arith) ∙ before.each k low r c at) (λ r c at. new ∙ on r c at);
     others = λ k h. old k (omega arith) ∙ before.others k (omega arith);
-    count = ap (λ j. j + 1) (before.count ∙ count_same m (has t) (has v) (λ k h. sym (old k (omega arith)))) ∙ sym (count_on m (has v) new);
-    bound = omega (arith, before.bound);
+    count = omega (arith, count_same m (has t) (has v) (λ k h. sym (old k (omega arith))), count_on m (has v) new);
+    bound = omega arith;
   }
     where
       old : (k : ℕ) → (k ≡ m → ⊥) → has v k ≡ has t k
-      old k other = joined k ∙ one_of_same (has t k) (has u k) (just k ∙ ne_eqb k m other)
+      old k other = grind (arith, nat_tests, joined k, just k)
 
       new : has v m ≡ true
-      new = joined m ∙ ap (λ b. one_of b (has u m)) (before.others m (omega arith)) ∙ just m ∙ eq-eqb m m refl
+      new = grind (arith, nat_tests, joined m, before.others m, just m)
 
   pub covered_all : (t : Trace) (n : ℕ) → Covered p d i (places_in p) t n → Cover p d i t n
   covered_all t n all = record {
-    each = λ k r c at. all.each k r c ((numbering p l).below k r c at) at;
+    each = λ k r c at. all.each k ((numbering p l).below k r c at) r c at;
     others = all.others;
     count = all.count;
   }

@@ -36,7 +36,7 @@ one_below : (n c : ℕ) (g : ℕ → Bool) → c < n → ((m : ℕ) → m < n �
 one_below zero c g h off = absurd (omega arith)
 one_below (suc n) c g h off =
     ⊎_elim
-    (λ (e : n ≡ c). ap (λ b. one_of b (g n)) (none_below n g (λ m l. off m (omega arith) (omega arith))) ∙ ap g e)
+    (λ (e : n ≡ c). rw (none_below n g (λ m l. off m (omega arith) (omega arith))) (ap g e))
     (λ (e : n ≡ c → ⊥). one_of_same _ (g n) (off n (omega arith) e) ∙ one_below n c g (omega arith) (λ m l. off m (omega arith)))
     (cases_eq n c)
 
@@ -51,14 +51,13 @@ module _ (p : ℕ) (t : listed p ≡ true) (d : Direction) (i : ℕ) (h : i < p 
   -- a data cell holds its own number alone
   held : (r c k : ℕ) → data_cell p r c ≡ true → has (datum no_trace p X r c) k ≡ eqb k (place_number p r c)
   held r c k x =
-      ap (λ s. has s k) (datum_in no_trace p X r c x ∙ is.places _ r c (record { holds = x; numbered = refl }))
-      ∙ own _ (number_below p t r c x) k
+      rw (datum_in no_trace p X r c x ∙ is.places _ r c (record { holds = x; numbered = refl })) (own _ (number_below p t r c x) k)
 
   -- and no cell but place k gives k to a join
   unheld : (r c k : ℕ) → (Place p k r c → ⊥) → has (datum no_trace p X r c) k ≡ false
   unheld r c k out =
       ⊎_elim (λ x. held r c k x ∙ ne_eqb k (place_number p r c) (λ e. out (record { holds = x; numbered = sym e })))
-      (λ x. ap (λ s. has s k) (datum_out no_trace p X r c x) ∙ no_member k)
+      (λ x. rw (datum_out no_trace p X r c x) (no_member k))
       (cases_Bool (data_cell p r c))
 
   -- in the column of place k, the line gives k where it covers that place
@@ -66,8 +65,8 @@ module _ (p : ℕ) (t : listed p ≡ true) (d : Direction) (i : ℕ) (h : i < p 
   column_of k r c at =
       ⊎_elim
       (λ (e : line_of p d r c ≡ i).
-      ap (λ s. has (datum no_trace p X s c) k) ((lines p t).meets d i r c (omega arith) at.holds e)
-      ∙ held r c k at.holds ∙ eq-eqb k _ (sym at.numbered) ∙ sym (and_from _ _ at.holds (eq-eqb _ i e)))
+      rw ((lines p t).meets d i r c (omega arith) at.holds e)
+      (held r c k at.holds ∙ eq-eqb k _ (sym at.numbered) ∙ sym (and_from _ _ at.holds (eq-eqb _ i e))))
       (λ (e : line_of p d r c ≡ i → ⊥).
       unheld (crossing p d i c) c k (λ same. e ((lines p t).alone d i r c (omega arith) at.holds ((numbering p t).apart k _ c r c same at).0))
       ∙ sym (and_right (data_cell p r c) _ (ne_eqb _ i e)))

@@ -1,52 +1,41 @@
 -- The bits of a number, and how many of them are set.
-use Rattle.std.proofs.Common.{◌≡◌, ℕ, zero, suc, ◌+◌, ◌/◌, ◌%◌, ◌^◌, ◌<◌, ◌≤◌, Bool, true, false, cond, eqb, sym, refl, ap, ◌∙◌, ap₂, ⊎_elim, zero-le, lt_of_lt_of_le, add-zero, add-suc, pow-suc, add-one, one-add, arith, lit<, pow_mono}
-use native.Mathlib.Nat.{div-eq_of_lt}
+use Rattle.std.proofs.Common.{◌≡◌, ℕ, zero, suc, ◌+◌, ◌/◌, ◌^◌, ◌<◌, ◌≤◌, Bool, true, false, cond, eqb, sym, refl, ap, ◌∙◌, ap₂, ⊎_elim, add-zero, add-suc, add-one, one-add, arith}
 use lib.Bits.{bit_xor}
 use lib.Count.{ones, ones_step}
-use lib.Dec.{eqb-suc-suc}
-use Rattle.std.proofs.lemmas.Nat.{ones-le, xor_shr, xor_mod, shr-shr, shr_below, mod_below}
-use Rattle.std.proofs.lemmas.Bool.{cases_eq}
+use Rattle.std.specs.Int.{bit_at}
+use Rattle.std.proofs.lemmas.Nat.{ones-le, shr_below}
+use Rattle.std.proofs.lemmas.Nat.Bits.{bit_at_lowest, bit_at-suc, bit_at-zero, bit_at-lt, bit_at_xor, bit_at-pow_same, bit_at-pow_other, bit_at_above, same_from_bits_below}
+use Rattle.std.proofs.lemmas.Bool.{cases_eq, eq-eqb, ne_eqb}
 use Rattle.std.proofs.lemmas.Bool.Decides.{nat_tests}
 use Rattle.tip_element.specs.Counts.{count_below}
 use Rattle.tip_element.specs.Traces.{bit, one_of}
 
--- The exclusive or of two digits, for `bit_of_xor`.
-digit_xor : (a b : ℕ) → a < 2 → b < 2 → eqb (bit_xor a b) 1 ≡ one_of (eqb a 1) (eqb b 1)
-digit_xor zero b h k = refl
-digit_xor (suc zero) zero h k = refl
-digit_xor (suc zero) (suc zero) h k = refl
-digit_xor (suc zero) (suc (suc b)) h k = absurd (omega arith)
-digit_xor (suc (suc a)) b h k = absurd (omega arith)
+-- A digit, by its bit.
+digit : (x n : ℕ) → bit_at x n ≡ cond (bit x n) 1 0
+digit x n = grind (arith, nat_tests, bit_at-lt x n)
 
 -- A bit of an exclusive or is set where just one of the two bits is.
 pub bit_of_xor : (x y n : ℕ) → bit (bit_xor x y) n ≡ one_of (bit x n) (bit y n)
-bit_of_xor x y n =
-    let a = x / 2 ^ n in
-    let b = y / 2 ^ n in
-    ap (λ z. eqb (z % 2) 1) (xor_shr x y n) ∙ ap (λ z. eqb z 1) (xor_mod a b 1)
-    ∙ digit_xor (a % 2) (b % 2) (mod_below a 2 (lit< tt)) (mod_below b 2 (lit< tt))
+bit_of_xor x y n = grind (arith, nat_tests, bit_at_xor x y n, bit_at-lt x n, bit_at-lt y n)
 
 -- A number of k bits has no bit set from k on.
 pub bit_above : (k x n : ℕ) → x < 2 ^ k → k ≤ n → bit x n ≡ false
-bit_above k x n h l = ap (λ z. eqb (z % 2) 1) (div-eq_of_lt (lt_of_lt_of_le h (pow_mono l)))
+bit_above k x n h l = ap (λ z. eqb z 1) (bit_at_above x k n h l)
 
 -- Zero has no bit set.
 pub bit_zero : (n : ℕ) → bit 0 n ≡ false
-bit_zero n = bit_above 0 0 n (lit< tt) zero-le
+bit_zero n = ap (λ z. eqb z 1) (bit_at-zero n)
 
 -- Half of a number has its bits one place lower, for inductions over the bits.
 bit_half : (x n : ℕ) → bit x (1 + n) ≡ bit (x / 2) n
-bit_half x n = ap (λ z. eqb (z % 2) 1) (sym (shr-shr x 1 n))
+bit_half x n = ap (bit x) (one-add n) ∙ ap (λ z. eqb z 1) (bit_at-suc x n)
 
 -- The power 2 ^ k has bit k set, and no other.
 pub bit_power : (k n : ℕ) → bit (2 ^ k) n ≡ eqb n k
-bit_power zero zero = refl
-bit_power zero (suc n) = bit_above 1 1 (suc n) (lit< tt) (omega arith) ∙ grind (arith, nat_tests)
-bit_power (suc k) zero = let even : 2 ^ suc k / 1 % 2 ≡ 0 = omega (arith, pow-suc 2 k) in grind (arith, nat_tests)
-bit_power (suc k) (suc n) =
-    let half : 2 ^ suc k / 2 ≡ 2 ^ k = omega (arith, pow-suc 2 k) in
-    ap (bit (2 ^ suc k)) (sym (one-add n)) ∙ bit_half (2 ^ suc k) n ∙ ap (λ x. bit x n) half ∙ bit_power k n
-    ∙ sym (eqb-suc-suc n k)
+bit_power k n =
+    ⊎_elim (λ (e : n ≡ k). ap (bit (2 ^ k)) e ∙ ap (λ z. eqb z 1) (bit_at-pow_same k) ∙ sym (eq-eqb n k e))
+    (λ (e : n ≡ k → ⊥). ap (λ z. eqb z 1) (bit_at-pow_other k n e) ∙ sym (ne_eqb n k e))
+    (cases_eq n k)
 
 -- The step of a count as a sum, so that `omega` can add.
 count_more : (b : Bool) (n : ℕ) → cond b (suc n) n ≡ n + cond b 1 0
@@ -73,22 +62,14 @@ count_short m (suc n) f h off =
     (λ (e : suc n ≡ m → ⊥). rw (off n (omega arith)) (count_short m n f (omega arith) off))
     (cases_eq (suc n) m)
 
--- The lowest digit, by the lowest bit.
-lowest : (x : ℕ) → x % 2 ≡ cond (bit x 0) 1 0
-lowest x = grind (arith, nat_tests)
-
 -- Numbers of k bits with the same bits are equal.
 pub bits_same : (k x y : ℕ) → x < 2 ^ k → y < 2 ^ k → ((n : ℕ) → n < k → bit x n ≡ bit y n) → x ≡ y
-bits_same zero x y h l e = omega arith
-bits_same (suc k) x y h l e =
-    let halves : x / 2 ≡ y / 2 =
-    bits_same k (x / 2) (y / 2) (shr_below x k 1 (rw add-one h)) (shr_below y k 1 (rw add-one l)) (λ n low. sym (bit_half x n) ∙ e (1 + n) (omega arith) ∙ bit_half y n) in
-    let digits : x % 2 ≡ y % 2 = lowest x ∙ ap (λ b. cond b 1 0) (e 0 (omega arith)) ∙ sym (lowest y) in
-    omega arith
+bits_same k x y h l e =
+    same_from_bits_below k x y h l (λ n b. digit x n ∙ ap (λ s. cond s 1 0) (e n b) ∙ sym (digit y n))
 
 -- The set bits of a number of k bits, counted one by one.
 pub ones_bits : (k x : ℕ) → x < 2 ^ k → ones x ≡ count_below k (bit x)
 ones_bits zero x h = omega (arith, ones-le 0 x h)
 ones_bits (suc k) x h =
     let rest = ones_bits k (x / 2) (shr_below x k 1 (rw add-one h)) ∙ count_same k (bit (x / 2)) (λ i. bit x (1 + i)) (λ i _. sym (bit_half x i)) in
-    ones_step x ∙ ap₂ (λ a b. a + b) (lowest x) rest ∙ sym (count_split 1 k (bit x)) ∙ ap (λ j. count_below j (bit x)) (one-add k)
+    ones_step x ∙ ap₂ (λ a b. a + b) (sym (bit_at_lowest x) ∙ digit x 0) rest ∙ sym (count_split 1 k (bit x)) ∙ ap (λ j. count_below j (bit x)) (one-add k)

@@ -1,9 +1,8 @@
 -- Traces as sets: members of joins, counts of members, and sets with the same members.
-use Rattle.std.proofs.Common.{◌≡◌, ℕ, ◌+◌, ◌-◌, ◌^◌, ◌<◌, Bool, true, false, not, ltb, sym, ap, ◌∙◌, ap₂, add-one, arith}
-use Rattle.std.proofs.lemmas.Bool.{cond_both}
+use Rattle.std.proofs.Common.{◌≡◌, ℕ, ◌+◌, ◌-◌, ◌^◌, ◌<◌, Bool, true, false, not, sym, ap, ◌∙◌, ap₂, add-one, arith}
 use Rattle.std.proofs.lemmas.Bool.Decides.{nat_tests}
 use Rattle.tip_element.specs.Counts.{count_below}
-use Rattle.tip_element.specs.Traces.{bit, has, one_of, no_trace, trace_join, Alike}
+use Rattle.tip_element.specs.Traces.{has, one_of, no_trace, trace_join, Alike}
 use Rattle.tip_element.specs.declared.trace.Trace.{Trace}
 use Rattle.tip_element.proofs.Bits.{bit_of_xor, bit_zero, bits_same}
 
@@ -24,7 +23,7 @@ one_of_same true b e = ap not e
 one_of_same false b e = e
 
 pub no_member : (k : ℕ) → has no_trace k ≡ false
-no_member k = cond_both (ltb k 64) (bit 0 k) (bit 0 (k - 64)) (λ b. b ≡ false) (λ _. bit_zero k) (λ _. bit_zero (k - 64))
+no_member k = grind (arith, bit_zero k, bit_zero (k - 64))
 
 -- sets with the same members are equal
 pub trace_same : (t u : Trace) → t.low < 2 ^ 64 → t.high < 2 ^ 64 → u.low < 2 ^ 64 → u.high < 2 ^ 64 → Alike t u → t ≡ u

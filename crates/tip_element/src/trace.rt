@@ -25,6 +25,7 @@ impl Element for Trace {
         Trace { low: 0, high: 0 }
     }
 
+    #[tactic(auto, using(crate::proofs::Sets::has_join))]
     fn join(self, other: Trace) -> Trace
         ensures value { result ≡ trace_join self other }
         ensures either { (n : ℕ) → has result n ≡ one_of (has self n) (has other n) }

@@ -1,13 +1,14 @@
 -- The examples, computed: every encoding is the one that `encoding` computes.
-use Rattle.std.proofs.Common.{◌≡◌, ℕ, ◌+◌, ◌-◌, ◌<◌, ◌≤◌, Bool, true, ◌&&◌, ◌||◌, eqb, List, [], ◌∷◌, get_or, Ok, sym, refl, ap, ◌∙◌, ⊎_elim, arith, lit<, lit≤}
-use lib.Bits.{xor_zero_r}
-use Rattle.std.proofs.lemmas.Bool.{and_parts, or_cases, eqb-true}
+use Rattle.std.proofs.Common.{◌≡◌, ℕ, ◌+◌, ◌-◌, ◌<◌, ◌≤◌, Bool, true, ◌&&◌, ◌||◌, eqb, List, [], ◌∷◌, get_or, Ok, sym, refl, ap, ◌∙◌, arith, lit<, lit≤}
+use Rattle.std.proofs.lemmas.Bool.{eqb-true}
+use Rattle.std.proofs.lemmas.Bool.Decides.{nat_tests}
 use Rattle.tip_code.specs.Encoding.{Encoded, Encodes, encoding}
 use Rattle.tip_code.specs.Places.{place_number}
 use Rattle.tip_code.specs.Primes.{listed}
 use Rattle.tip_code.specs.Stripe.{data_cell}
-use Rattle.tip_element.specs.Words.{word, no_word, word_join}
+use Rattle.tip_element.specs.Words.{word, no_word, word_join, word_laws}
 use Rattle.tip_element.specs.declared.word.Word.{Word}
+use Rattle.tip_element.proofs.Joins.{right}
 use Rattle.tip_code.proofs.Encodings.{one_encoding}
 use Rattle.tip_code.proofs.Numbers.{place_first}
 use Rattle.tip_code.proofs.Sizes.{size_prime, size_stripes, size_none}
@@ -47,27 +48,19 @@ cleared_is : (X : ℕ → ℕ → Word) → EncodingOf 5 place_four_cleared X �
 unfolding encoding data_cell place_number
 cleared_is X x = cells_are 5 refl (holding place_four_cleared) (at cleared_rows) refl X x
 
--- cell (r, c) is one that a write to place 4 changes
-abbrev written : ℕ → ℕ → Bool
-written r c =
-    (eqb r 1 && eqb c 1) || ((eqb r 1 && eqb c 5) || ((eqb r 2 && eqb c 3) || (eqb r 0 && eqb c 4)))
+-- cell (r, c) is one that a write to place 4 changes, or it is the same in both tables
+abbrev written_or_same : ℕ → ℕ → Bool
+written_or_same r c =
+    (eqb r 1 && eqb c 1) || ((eqb r 1 && eqb c 5) || ((eqb r 2 && eqb c 3) || ((eqb r 0 && eqb c 4) || eqb (at cleared_rows r c) (at first_rows r c))))
 
-rest_same : all_below 4 (λ r. all_below 6 (λ c. written r c || eqb (at cleared_rows r c) (at first_rows r c))) ≡ true
+rest_same : all_below 4 (λ r. all_below 6 (written_or_same r)) ≡ true
 rest_same = refl
-
-both : (a b m n : ℕ) → (eqb a m && eqb b n) ≡ true → (a ≡ m) × (b ≡ n)
-both a b m n e = let q = and_parts _ _ e in (eqb-true a m q.0, eqb-true b n q.1)
 
 kept_is : (X Y : ℕ → ℕ → Word) → EncodingOf 5 one_to_twelve X → EncodingOf 5 place_four_cleared Y → (r c : ℕ) → r < 4 → c ≤ 5 → ((r ≡ 1) × (c ≡ 1) → ⊥) → ((r ≡ 1) × (c ≡ 5) → ⊥) → ((r ≡ 2) × (c ≡ 3) → ⊥) → ((r ≡ 0) × (c ≡ 4) → ⊥) → Y r c ≡ X r c
 kept_is X Y x y r c h l own row diagonal antidiagonal =
+    let test = all_at 6 (written_or_same r) (all_at 4 (λ j. all_below 6 (written_or_same j)) rest_same r h) c (omega arith) in
+    let same : at cleared_rows r c ≡ at first_rows r c = grind (arith, nat_tests, test) in
     cleared_is Y y r c h l ∙ ap word same ∙ sym (counting_is X x r c h l)
-  where
-    same : at cleared_rows r c ≡ at first_rows r c
-    same =
-        ⊎_elim
-        (λ w. absurd (⊎_elim (λ e. own (both r c 1 1 e)) (λ v. ⊎_elim (λ e. row (both r c 1 5 e)) (λ u. ⊎_elim (λ e. diagonal (both r c 2 3 e)) (λ e. antidiagonal (both r c 0 4 e)) (or_cases _ _ u)) (or_cases _ _ v)) (or_cases _ _ w)))
-        (eqb-true (at cleared_rows r c) (at first_rows r c))
-        (or_cases (written r c) (eqb (at cleared_rows r c) (at first_rows r c)) (all_at 6 (λ k. written r k || eqb (at cleared_rows r k) (at first_rows r k)) (all_at 4 (λ j. all_below 6 (λ k. written j k || eqb (at cleared_rows j k) (at first_rows j k))) rest_same r h) c (omega arith)))
 
 ones_are : (X : ℕ → ℕ → Word) → Encodes no_word word_join 5 (λ _. word 0xff) X → (r c : ℕ) → r < 4 → c ≤ 5 → X r c ≡ word 0xff
 unfolding encoding data_cell place_number
@@ -79,13 +72,10 @@ smallest_is X x c l =
     let is = cells_are 3 refl (holding (1 ∷ 2 ∷ [])) (λ r _. r + 1) refl X x in
     (is 0 c (lit< tt) l, is 1 c (lit< tt) l)
 
--- zero changes nothing, from the right
-none_right : (x : Word) → word_join x no_word ≡ x
-none_right x = ap word (xor_zero_r x.0)
-
 parity_is : (X : ℕ → ℕ → Word) → Encoded no_word word_join 5 X → X 0 4 ≡ word_join (word_join (X 0 0) (X 1 1)) (X 3 3)
 unfolding data_cell
 parity_is X x =
+    let none_right : (y : Word) → word_join y no_word ≡ y = right word_laws in
     x.antidiagonal 0 (lit< tt) ∙ none_right _ ∙ ap (λ y. word_join y (X 3 3)) (none_right (word_join (X 0 0) (X 1 1)))
 
 pub worked : Worked
@@ -108,6 +98,6 @@ worked = record {
 
 pub worked_solving : WorkedSolving
 worked_solving = record {
-  work_short = λ lost. first_stop 5 24 143 144 lost stop.Work (too_short (lit< tt)) (λ _. refl) (λ l. absurd (omega (arith, l))) (λ l. absurd (omega (arith, l))) (λ l. absurd (omega (arith, l)));
+  work_short = λ lost. first_stop 5 24 143 144 lost stop.Work (too_short (lit< tt)) (λ _. refl) (λ l. omega arith) (λ l. absurd (omega arith)) (λ l. omega arith);
   work_enough = λ lost within few. stopped_few 5 24 144 144 lost (Unit {0}) (Unit {0}) (Ok tt) (record { sized = refl; enough = lit≤ tt; columns = within }) (few, tt);
 }

@@ -1,22 +1,20 @@
 -- Three columns written one after another into a stripe, and when that solves it.
-use Rattle.std.proofs.Common.{◌≡◌, ℕ, ◌+◌, ◌-◌, ◌<◌, ◌≤◌, Bool, true, false, cond, ◌||◌, eqb, ◌⊎◌, List, get_or, sym, refl, ap, ◌∙◌, ap₂, inl, inr, ⊎_elim}
-use Rattle.std.proofs.lemmas.Bool.{cases_eq, cases_Bool, both_ways, or_cases, eqb-true}
+use Rattle.std.proofs.Common.{◌≡◌, ℕ, ◌+◌, ◌-◌, ◌<◌, ◌≤◌, Bool, true, false, ◌||◌, eqb, ◌⊎◌, List, get_or, sym, ap, ◌∙◌, arith}
+use Rattle.std.proofs.lemmas.Bool.Decides.{nat_tests}
+use Rattle.std.proofs.lemmas.Bool.{cases_eq, cases_Bool}
 use Rattle.tip_element.specs.Counts.{join_below}
 use Rattle.tip_element.proofs.Joins.{join_same}
 use Rattle.tip_code.specs.Encoding.{Encoded}
 use Rattle.tip_algebra.specs.Known.{except, KnownSums, RowSums}
-use Rattle.tip_algebra.specs.Unfolded.{unfolded, unfolded_anti, excess, at_last}
+use Rattle.tip_algebra.specs.Unfolded.{unfolded, unfolded_anti, excess}
 use Rattle.tip_algebra.proofs.Rules.{unfolded_same, excess_same}
 use Rattle.tip_solve.specs.Solving.{Agree, Solved}
 use Rattle.tip_solve.specs.Writing.{Elsewhere}
 
 -- joins of terms that agree where the test fails
 except_same : {E : Type 0} (none : E) (join : E → E → E) (p : ℕ) (t : ℕ → Bool) (f h : ℕ → E) → ((c : ℕ) → c < p → t c ≡ false → f c ≡ h c) → join_below none join p (except none t f) ≡ join_below none join p (except none t h)
-except_same {E} none join p t f h e = join_same none join p (except none t f) (except none t h) (λ c l. go (f c) (h c) (t c) (e c l))
-  where
-    go : (x y : E) (b : Bool) → (b ≡ false → x ≡ y) → cond b none x ≡ cond b none y
-    go x y true k = refl
-    go x y false k = k refl
+except_same {E} none join p t f h e =
+    join_same none join p (except none t f) (except none t h) (λ c l. grind (arith, e c l))
 
 -- the sums of the known columns are those of every stripe that has these columns
 pub known_same : {E : Type 0} (none : E) (join : E → E → E) (p : ℕ) (t : ℕ → Bool) (X W : ℕ → ℕ → E) (d a r : List E) (e : E) → ((c : ℕ) → c < p → t c ≡ false → (r : ℕ) → r < p - 1 → X r c ≡ W r c) → KnownSums none join p t X d a r e → KnownSums none join p t W d a r e
@@ -25,7 +23,7 @@ known_same none join p t X W d a r e agree k = record {
   antidiagonal = λ i h.
       k.antidiagonal i h
       ∙ except_same none join p t (λ c. unfolded_anti none join p X c (i + c)) (λ c. unfolded_anti none join p W c (i + c))
-      (λ c l o. ap₂ join (unfolded_same none p X W c l (agree c l o) (i + c)) (ap (λ x. at_last none p x (i + c)) (excess_same none p join X W c l (agree c l o))));
+      (λ c l o. cc (unfolded_same none p X W c l (agree c l o) (i + c), excess_same none p join X W c l (agree c l o)));
   row = λ i h. k.row i h ∙ except_same none join p t (λ c. unfolded none p X c i) (λ c. unfolded none p W c i) (λ c l o. unfolded_same none p X W c l (agree c l o) i);
   excesses = k.excesses ∙ except_same none join p t (λ c. excess none join p X c) (λ c. excess none join p W c) (λ c l o. excess_same none p join X W c l (agree c l o));
 }
@@ -38,24 +36,18 @@ row_same none join p X W r s agree k = record {
 
 -- what is not sought is kept
 pub sought_all : (p : ℕ) (lost t : ℕ → Bool) → ((c : ℕ) → c < p → lost c ≡ true → t c ≡ true) → (c : ℕ) → c < p → t c ≡ false → lost c ≡ false
-sought_all p lost t all c l o =
-    ⊎_elim (λ (q : lost c ≡ true). absurd (both_ways (t c) o (all c l q))) (λ q. q) (cases_Bool (lost c))
+sought_all p lost t all c l o = grind (arith, all c l)
 
 pub one_of_two : (c f h : ℕ) → (eqb c f || eqb c h) ≡ true → (c ≡ f) ⊎ (c ≡ h)
-one_of_two c f h e = ⊎_elim (λ q. inl (eqb-true c f q)) (λ q. inr (eqb-true c h q)) (or_cases (eqb c f) (eqb c h) e)
+one_of_two c f h e = grind (arith, nat_tests)
 
 pub one_of_three : (c f g h : ℕ) → (eqb c f || (eqb c g || eqb c h)) ≡ true → (c ≡ f) ⊎ ((c ≡ g) ⊎ (c ≡ h))
-one_of_three c f g h e =
-    ⊎_elim (λ q. inl (eqb-true c f q)) (λ q. inr (one_of_two c g h q)) (or_cases (eqb c f) (eqb c g || eqb c h) e)
+one_of_three c f g h e = grind (arith, nat_tests)
 
 module _ {E : Type 0} (p : ℕ) (lost : ℕ → Bool) (k : ℕ) (X Y : ℕ → ℕ → E) (w : Elsewhere p lost k X Y) where
   -- a write leaves each kept column
   still : (r c : ℕ) → r < p - 1 → c ≤ p → lost c ≡ false → Y r c ≡ X r c
-  still r c h l o =
-      ⊎_elim
-      (λ (e : c ≡ k). ap (Y r) e ∙ w.kept (ap lost (sym e) ∙ o) r h ∙ ap (X r) (sym e))
-      (λ e. w.others r c h l e)
-      (cases_eq c k)
+  still r c h l o = grind (arith, cases_eq c k, w.others r c h l, w.kept)
 
 module _ {E : Type 0} (none : E) (join : E → E → E) (p : ℕ) (lost : ℕ → Bool) (a b c : ℕ) (X Y₁ Y₂ Y₃ : ℕ → ℕ → E) (xs ys zs : List E) where
   -- Lists that are columns a, b and c of each encoded stripe with the kept columns, written where these are lost, solve the stripe.
@@ -69,12 +61,4 @@ module _ {E : Type 0} (none : E) (join : E → E → E) (p : ℕ) (lost : ℕ �
       whole : (W : ℕ → ℕ → E) → Encoded none join p W → Agree p lost X W → (r k : ℕ) → r < p - 1 → k ≤ p → Y₃ r k ≡ W r k
       whole W enc agree r k h l =
           let is = right W enc agree r h in
-          ⊎_elim
-          (λ (o : lost k ≡ true). ⊎_elim
-          (λ (e : k ≡ a). ap (Y₃ r) e ∙ w₃.others r a h la ac ∙ w₂.others r a h la ab ∙ h₁ (ap lost (sym e) ∙ o) r h ∙ is.0 ∙ ap (W r) (sym e))
-          (⊎_elim
-          (λ (e : k ≡ b). ap (Y₃ r) e ∙ w₃.others r b h lb bc ∙ h₂ (ap lost (sym e) ∙ o) r h ∙ is.1 ∙ ap (W r) (sym e))
-          (λ (e : k ≡ c). ap (Y₃ r) e ∙ h₃ (ap lost (sym e) ∙ o) r h ∙ is.2 ∙ ap (W r) (sym e)))
-          (covers k l o))
-          (λ (o : lost k ≡ false). stays r k h l o ∙ agree r k h l o)
-          (cases_Bool (lost k))
+          grind (arith, cases_Bool (lost k), covers k l, stays r k h l, agree r k h l, w₂.others r a h la ab, w₃.others r a h la ac, w₃.others r b h lb bc, h₁, h₂, h₃)

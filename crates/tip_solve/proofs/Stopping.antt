@@ -19,10 +19,7 @@ module _ (p cells room least : ℕ) (lost : Columns) where
   pub first_stop : (s : Stop) → SolveStop p cells room least lost s → (3 < number s → cells ≡ cells_in p) → (9 < number s → least ≤ room) → (12 < number s → (c : ℕ) → in_set lost c ≡ true → c ≤ p) → (13 < number s → size lost ≤ 3) → First (SolveStop p cells room least lost) s
   first_stop s this sized enough columns few = record { this = this; lower = λ t l f. none_lower (number s) sized enough columns few l f }
 
-  known : (t : Stop) → number t < 14
-  known t = search rules
-
   -- where the first three stops do not fit, the number of lost columns decides
   pub stopped_few : (A B : Type 0) (r : Result (Unit {0}) Stop) → Fitting p cells room least lost → MatchResult r (λ _. (size lost ≤ 3) × A) (λ s. (s ≡ stop.Lost) × (3 < size lost) × B) → Stopped (SolveStop p cells room least lost) r
-  stopped_few A B (Ok a) fit few = λ t f. none_lower 14 (λ _. fit.sized) (λ _. fit.enough) (λ _. fit.columns) (λ _. few.0) (known t) f
+  stopped_few A B (Ok a) fit few = λ t f. none_lower 14 (λ _. fit.sized) (λ _. fit.enough) (λ _. fit.columns) (λ _. few.0) (search rules) f
   stopped_few A B (Err s) fit many = rw many.0 (first_stop stop.Lost (too_many many.1) (λ _. fit.sized) (λ _. fit.enough) (λ _. fit.columns) (λ l. omega arith))

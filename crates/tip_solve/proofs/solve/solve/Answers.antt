@@ -1,4 +1,3 @@
-use Rattle.std.proofs.lemmas.Result.{err_from_is_err_and}
 use Rattle.tip_code.specs.Geometry.{prime_of}
 use Rattle.tip_code.proofs.Sizes.{facts}
 use Rattle.tip_algebra.proofs.Decided.{decided}
@@ -10,11 +9,6 @@ returns-clause-stop g c = stopped_few _ _ _ _ _ _ _ c.recover_few-answer.result 
 
 pub returns-clause-decided : goal.returns-clause-decided
 returns-clause-decided g c = decided g.E.Element.laws (prime_of c.args.geometry) (facts c.args.geometry)
-
-pub returns-in_err-fitting-clause-stop : goal.returns-in_err-fitting-clause-stop
-returns-in_err-fitting-clause-stop g c =
-    let q = err_from_is_err_and c.from_residual.result c.from_residual.ensures.1 in
-    rw (q.1, q.2) (rw c.work_len-size.ensures at c.in_err-fitting.ensures.0)
 
 pub returns-in_err-fitting-clause-decided : goal.returns-in_err-fitting-clause-decided
 returns-in_err-fitting-clause-decided g c = decided g.E.Element.laws (prime_of c.args.geometry) (facts c.args.geometry)

@@ -1,6 +1,5 @@
-use Rattle.std.proofs.Common.{◌+◌, ◌-◌, ◌%◌, ◌<◌, get_or, ap, ◌∙◌, arith}
-use Rattle.tip_code.proofs.Tables.{prime_facts}
-use Rattle.tip_algebra.proofs.Pair.{doubled, pair_found}
+use Rattle.std.proofs.Common.{◌+◌, ◌-◌, ◌%◌, get_or, ap, ◌∙◌, arith}
+use Rattle.tip_algebra.proofs.Pair.{pair_found}
 use Rattle.tip_solve.proofs.system.find_pair.Goals as goal
 
 pub returns : goal.returns
@@ -16,11 +15,3 @@ returns g c X Y s =
     (λ i low. c.join_turned.ensures i low ∙ ap (λ e. m.join e (get_or a ((i + (p - h)) % p) m.zero)) (c.copy_turned.ensures i low))
     c.divide_from.ensures
     (λ i low. c.join_turned-2.ensures i low ∙ ap (λ e. m.join e (get_or y ((i + (p + f - h)) % p) m.zero)) (c.copy_turned-2.ensures i low))
-
--- twice the distance is no multiple of p, which is odd
-pub divide_from-requires : goal.divide_from-requires
-divide_from-requires g c =
-    let p = c.args.sums.now.prime.number in
-    let u = c.args.at.last - c.args.at.first in
-    let low : u + u < p + p = omega (arith, c.requires.below) in
-    (doubled p u c.wrapped-step.result (omega (arith, c.args.at.ordered)) (omega (arith, c.requires.below)) (prime_facts p c.args.sums.now.prime.listed).odd (c.wrapped-step.ensures.value low), c.wrapped-step.ensures.within low, omega (arith, c.requires.below), c.join_turned.auto.sum ∙ c.copy_turned.auto.copy ∙ c.requires.sized.0, c.requires.sized.2)

@@ -2,16 +2,10 @@ use Rattle.std.proofs.Common.{◌≡◌, ℕ, ◌<◌, true, length, slice_index
 use Rattle.std.proofs.lemmas.List.{get_or_read}
 use Rattle.tip_code.specs.Encoding.{datum}
 use Rattle.tip_code.specs.Stripe.{data_cell, crossing, stripe_of}
-use Rattle.tip_code.proofs.Cells.{data_facts}
 use Rattle.tip_element.proofs.Joins.{join_more, join_skip}
 use Rattle.tip_code.proofs.Data.{datum_in, datum_out}
 use Rattle.tip_code.proofs.stripe.Stripe.line_join.Goals as goal
 use Rattle.tip_code.proofs.stripe.Stripe.line_join.Goals.{then-is_data, else-is_data}
-
-pub index_of-requires : goal.index_of-requires
-index_of-requires g c =
-    let f = data_facts c.args.self.now.prime.number c.crossing-row.result c.loop-column.column (sym c.if-is_data.ensures) in
-    (f.row, omega (arith, f.column))
 
 pub loop-column-preserved : goal.loop-column-preserved
 loop-column-preserved g c =

@@ -3,16 +3,9 @@ use Rattle.std.proofs.lemmas.List.{get_or_read}
 use Rattle.tip_code.specs.Geometry.{cells_in}
 use Rattle.tip_code.specs.Places.{Place}
 use Rattle.tip_code.specs.Stripe.{stripe_of, cell_index}
-use Rattle.tip_code.proofs.Cells.{data_facts}
 use Rattle.tip_code.proofs.Filling.{placed_more}
 use Rattle.tip_code.proofs.Numbers.{numbering}
 use Rattle.tip_code.proofs.stripe.Stripe.place_all.Goals as goal
-
-pub index_of-requires : goal.index_of-requires
-index_of-requires g c =
-    let cell = c.place_cell-cell.result in
-    let f = data_facts _ cell.row cell.column c.place_cell-cell.ensures.holds in
-    (f.row, omega (arith, f.column))
 
 pub loop-place-preserved : goal.loop-place-preserved
 loop-place-preserved g c =

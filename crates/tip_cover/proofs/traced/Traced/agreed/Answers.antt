@@ -1,4 +1,4 @@
-use Rattle.std.proofs.Common.{◌≡◌, Bool, sym, ap, ◌∙◌, subst, arith, rules}
+use Rattle.std.proofs.Common.{◌≡◌, Bool, ap, ◌∙◌, arith, rules}
 use Rattle.std.proofs.lemmas.Iterator.{YieldsList-from_range}
 use Rattle.std.proofs.lemmas.Iterator.Consumers.{YieldsList-from_filter, count_from_yields_List}
 use Rattle.tip_code.specs.Geometry.{prime_of}
@@ -9,7 +9,7 @@ use Rattle.tip_element.specs.Laws.{Exactly}
 
 -- what a call of the closure returns is what `is_right` returned
 exactly_along : (a b : Bool) (P : Type 0) → b ≡ a → Exactly a P → Exactly b P
-exactly_along a b P e h = subst (λ (v : Bool). Exactly v P) (sym e) h
+exactly_along a b P e h = rw e h
 
 pub returns : goal.returns
 returns c =

@@ -1,5 +1,4 @@
 use Rattle.std.proofs.Common.{ℕ, ap, ◌∙◌}
-use Rattle.tip_code.specs.Geometry.{prime_of}
 use Rattle.tip_cover.proofs.Tracing.{traced, counted}
 use Rattle.tip_cover.proofs.traced.Traced.find.Goals as goal
 use Rattle.tip_element.specs.Traces.{has}
@@ -7,8 +6,6 @@ use Rattle.tip_element.specs.Traces.{has}
 pub returns : goal.returns
 returns c =
     let stripe = c.args.self.now in
-    let p = prime_of stripe.geometry in
-    let chain = c.in_ok-chain.chain in
     let at = c.in_ok-chain.ensures in
     let found = c.parity-found.ensures in
     let cover = c.covered-places.ensures in
@@ -17,6 +14,6 @@ returns c =
       found = found;
       cover = cover;
       encoded = λ g own is.
-          let alike = λ (k : ℕ). ap (λ s. has s k) found ∙ traced p stripe.geometry.prime.listed chain.direction chain.line at.line g own _ is _ _ cover k in
-          (alike, counted p stripe.few chain.direction chain.line _ _ _ alike cover);
+          let alike = λ (k : ℕ). ap (λ s. has s k) found ∙ traced _ stripe.geometry.prime.listed _ _ at.line g own _ is _ _ cover k in
+          (alike, counted _ stripe.few _ _ _ _ _ alike cover);
     }

@@ -1,4 +1,4 @@
-use Rattle.std.proofs.Common.{◌≡◌, ℕ, ◌+◌, ◌-◌, ◌%◌, length, get_or, ap, ◌∙◌, ap₂, arith}
+use Rattle.std.proofs.Common.{◌≡◌, ◌+◌, ◌-◌, length, get_or, ◌∙◌, arith}
 use Rattle.tip_code.specs.Stripe.{stripe_of}
 use Rattle.tip_algebra.specs.Unfolded.{unfolded}
 use Rattle.tip_algebra.proofs.Cyclic.{held_mod}
@@ -6,24 +6,27 @@ use Rattle.tip_algebra.proofs.Lost.{column_excess}
 use Rattle.tip_algebra.proofs.Rules.{unfolded_per}
 use Rattle.tip_solve.proofs.sums.Sums.add_column.Goals as goal
 
-pub returns : goal.returns
-returns g c =
-    let m = g.E.Element in
+pub returns-clause-diagonals : goal.returns-clause-diagonals
+returns-clause-diagonals g c i h =
+    let d = g.E.Element.zero in
     let p = c.args.stripe.now.prime.number in
     let k = c.args.column in
-    let X = stripe_of m.zero p c.args.stripe.now.cells.now in
+    let X = stripe_of d p c.args.stripe.now.cells.now in
     let u = c.unfold-parities in
+    let read = held_mod d p (unfolded d p X k) (unfolded_per d p X k) u.new.run u.ensures.run (omega arith) (i + (p - k)) in
+    cc (c.join_turned.ensures i (omega (arith, c.requires.prime)), c.requires.prime, read)
+
+pub returns-clause-antidiagonals : goal.returns-clause-antidiagonals
+returns-clause-antidiagonals g c i h =
+    let m = g.E.Element in
+    let d = m.zero in
     let t = c.args.self.now in
-    let same : t.prime.number ≡ p = c.requires.prime in
-    let long : length c.join_turned-2.new.sum ≡ p = c.join_turned-2.auto.sum ∙ t.antidiagonals_long ∙ same in
-    let turned : (j : ℕ) → get_or u.new.run (j % t.prime.number) m.zero ≡ unfolded m.zero p X k j = λ j. ap (λ q. get_or u.new.run (j % q) m.zero) same ∙ held_mod m.zero p (unfolded m.zero p X k) (unfolded_per m.zero p X k) u.new.run u.ensures.run (omega (arith, t.prime.low)) j in
-    record {
-      prime = same;
-      rows = λ i h. c.join_each.ensures.both i (omega (arith, t.rows_long)) (omega (arith, u.auto.run, c.requires.there.1)) ∙ ap (m.join (get_or t.rows.now i m.zero)) (u.ensures.run i h);
-      diagonals = λ i h. c.join_turned.ensures i (omega arith) ∙ ap (m.join (get_or t.diagonals.now i m.zero)) (turned (i + (p - k)));
-      antidiagonals = λ i h.
-          c.join_at.ensures i (omega arith)
-          ∙ ap₂ m.join (c.join_turned-2.ensures i (omega arith) ∙ ap (m.join (get_or t.antidiagonals.now i m.zero)) (turned (i + k))) (column_excess m.laws p X i h k c.requires.there.0 u.result u.ensures.parities)
-          ∙ m.laws.assoc _ _ _;
-      parities = u.ensures.parities;
-    }
+    let p = c.args.stripe.now.prime.number in
+    let k = c.args.column in
+    let X = stripe_of d p c.args.stripe.now.cells.now in
+    let u = c.unfold-parities in
+    let read = held_mod d p (unfolded d p X k) (unfolded_per d p X k) u.new.run u.ensures.run (omega arith) (i + k) in
+    let long : length c.join_turned-2.new.sum ≡ p = c.join_turned-2.auto.sum ∙ t.antidiagonals_long ∙ c.requires.prime in
+    let excess = column_excess m.laws p X i h k c.requires.there.0 u.result u.ensures.parities in
+    c.join_at.ensures i (omega arith)
+    ∙ cc (c.join_turned-2.ensures i (omega (arith, c.requires.prime)), c.requires.prime, read, excess, m.laws.assoc (get_or t.antidiagonals.now i d) (unfolded d p X k (i + k)) _)
