@@ -8,7 +8,7 @@ use super::prime::Prime;
 use std::fmt;
 
 /// A cell of a stripe: its row, from 0 to p - 2, and its column, from 0 to p. Callers may write any numbers, so what is below p is
-/// said where it matters, and not here; it is said alike of single rows, columns and lines, which are plain numbers of loops.
+/// said where it matters, and not here; it is said alike of single columns and lines, which are plain numbers of loops.
 #[derive(Clone, Copy, PartialEq, Eq, Debug)]
 pub struct Cell {
     pub row: usize,
@@ -56,66 +56,41 @@ impl fmt::Display for Chain {
 }
 
 /// Whether a cell below column p is neither the parity of a diagonal nor that of an antidiagonal.
-fn off_parity(prime: Prime, row: usize, column: usize) -> bool
-    requires { row < prime.number - 1 }
-    ensures { result ≡ (not (column == row + 1) && not (column == prime.number - 1 - row)) }
+fn off_parity(prime: Prime, cell: Cell) -> bool
+    requires { cell.row < prime.number - 1 }
+    ensures { result ≡ (not (cell.column == cell.row + 1) && not (cell.column == prime.number - 1 - cell.row)) }
 {
     let p = prime.number;
+    let Cell { row, column } = cell;
     (column != row + 1) & (column != p - 1 - row)
 }
 
 /// Whether the cell holds data.
 #[tactic(auto, using(std::proofs::lemmas::Bool::Decides::nat_tests), unfolding(crate::specs::Stripe::data_cell))]
-pub(crate) fn is_data(prime: Prime, row: usize, column: usize) -> bool
-    ensures { result ≡ data_cell prime.number row column }
+pub(crate) fn is_data(prime: Prime, cell: Cell) -> bool
+    ensures { result ≡ data_cell prime.number cell.row cell.column }
 {
     let p = prime.number;
-    row < p - 1 && column < p && off_parity(prime, row, column)
+    cell.row < p - 1 && cell.column < p && off_parity(prime, cell)
 }
 
 /// Where a cell stands in a stripe buffer.
-pub(crate) fn index_of(prime: Prime, row: usize, column: usize) -> usize
-    requires { (row < prime.number - 1) × (column ≤ prime.number) }
-    ensures value { result ≡ cell_index prime.number row column }
+pub(crate) fn index_of(prime: Prime, cell: Cell) -> usize
+    requires { (cell.row < prime.number - 1) × (cell.column ≤ prime.number) }
+    ensures value { result ≡ cell_index prime.number cell.row cell.column }
     ensures within { result < (prime.number - 1) * (prime.number + 1) }
 {
-    column * (prime.number - 1) + row
+    cell.column * (prime.number - 1) + cell.row
 }
 
 impl Direction {
-    /// The column of the parity of a line, which stands in the row of the line's number.
-    pub(crate) fn parity_column(self, prime: Prime, line: usize) -> usize
-        requires { line < prime.number - 1 }
-        ensures value { result ≡ parity_column prime.number self line }
-        ensures within { result ≤ prime.number }
-    {
-        let p = prime.number;
-        match self {
-            Direction::Row => p,
-            Direction::Diagonal => line + 1,
-            Direction::Antidiagonal => p - 1 - line,
-        }
-    }
-
-    /// The row in which a line crosses a column.
-    pub(crate) fn crossing(self, prime: Prime, line: usize, column: usize) -> usize
-        requires { (line < prime.number - 1) × (column < prime.number) }
-        ensures { result ≡ crossing prime.number self line column }
-    {
-        let p = prime.number;
-        match self {
-            Direction::Row => line,
-            Direction::Diagonal => prime.wrapped(line + (p - column)),
-            Direction::Antidiagonal => prime.wrapped(line + column),
-        }
-    }
-
     /// The line on which a cell lies.
-    fn line_of(self, prime: Prime, row: usize, column: usize) -> usize
-        requires { (row < prime.number - 1) × (column < prime.number) }
-        ensures { result ≡ line_of prime.number self row column }
+    fn line_of(self, prime: Prime, cell: Cell) -> usize
+        requires { (cell.row < prime.number - 1) × (cell.column < prime.number) }
+        ensures { result ≡ line_of prime.number self cell.row cell.column }
     {
         let p = prime.number;
+        let Cell { row, column } = cell;
         match self {
             Direction::Row => row,
             Direction::Diagonal => prime.wrapped(row + column),
@@ -124,13 +99,46 @@ impl Direction {
     }
 }
 
+impl Chain {
+    /// The parity cell, which stands in the row of the line's number.
+    pub(crate) fn parity_cell(self, prime: Prime) -> Cell
+        requires { self.line < prime.number - 1 }
+        ensures value { result ≡ parity_cell prime.number self.direction self.line }
+        ensures within { result.column ≤ prime.number }
+    {
+        let p = prime.number;
+        let line = self.line;
+        let column = match self.direction {
+            Direction::Row => p,
+            Direction::Diagonal => line + 1,
+            Direction::Antidiagonal => p - 1 - line,
+        };
+        Cell { row: line, column }
+    }
+
+    /// The cell in which the line crosses a column.
+    pub(crate) fn crossing(self, prime: Prime, column: usize) -> Cell
+        requires { (self.line < prime.number - 1) × (column < prime.number) }
+        ensures row { result.row ≡ crossing prime.number self.direction self.line column }
+        ensures column { result.column ≡ column }
+    {
+        let p = prime.number;
+        let line = self.line;
+        let row = match self.direction {
+            Direction::Row => line,
+            Direction::Diagonal => prime.wrapped(line + (p - column)),
+            Direction::Antidiagonal => prime.wrapped(line + column),
+        };
+        Cell { row, column }
+    }
+}
+
 /// Whether the cell holds data and lies on the line.
 #[tactic(auto, using(crate::proofs::Cells::data_facts))]
 fn on_line(prime: Prime, chain: Chain, cell: Cell) -> bool
     ensures { result ≡ covers prime.number chain.direction chain.line cell.row cell.column }
 {
-    is_data(prime, cell.row, cell.column)
-        && chain.direction.line_of(prime, cell.row, cell.column) == chain.line
+    is_data(prime, cell) && chain.direction.line_of(prime, cell) == chain.line
 }
 
 /// The parity cell of the line through a data cell.
@@ -139,9 +147,8 @@ fn parity_through(prime: Prime, cell: Cell, direction: Direction) -> Cell
     requires { data_cell prime.number cell.row cell.column ≡ true }
     ensures { result ≡ parity_cell prime.number direction (line_of prime.number direction cell.row cell.column) }
 {
-    let row = direction.line_of(prime, cell.row, cell.column);
-    let column = direction.parity_column(prime, row);
-    Cell { row, column }
+    let line = direction.line_of(prime, cell);
+    Chain { direction, line }.parity_cell(prime)
 }
 
 impl Geometry {
@@ -151,7 +158,7 @@ impl Geometry {
     {
         let p = self.prime().number;
         let is_there = cell.row < p - 1 && cell.column <= p;
-        is_there.then(|| index_of(self.prime(), cell.row, cell.column))
+        is_there.then(|| index_of(self.prime(), cell))
     }
 
     /// How many chains a stripe has, 3(p - 1).
@@ -183,10 +190,7 @@ impl Geometry {
         ensures { MatchOption result (prime_of self - 1 ≤ chain.line) (λ c. (chain.line < prime_of self - 1) × (c ≡ parity_cell (prime_of self) chain.direction chain.line)) }
     {
         let is_there = chain.line < self.prime().number - 1;
-        is_there.then(|| Cell {
-            row: chain.line,
-            column: chain.direction.parity_column(self.prime(), chain.line),
-        })
+        is_there.then(|| chain.parity_cell(self.prime()))
     }
 
     /// Whether the parity of the chain covers the cell.
@@ -203,10 +207,7 @@ impl Geometry {
         ensures { MatchOption result (data_cell (prime_of self) cell.row cell.column ≡ false) (λ q. Concerned (prime_of self) cell.row cell.column q.row q.diagonal q.antidiagonal) }
     {
         let prime = self.prime();
-        if !is_data(prime, cell.row, cell.column) {
-            return None;
-        }
-        Some(Parities {
+        is_data(prime, cell).then(|| Parities {
             row: parity_through(prime, cell, Direction::Row),
             diagonal: parity_through(prime, cell, Direction::Diagonal),
             antidiagonal: parity_through(prime, cell, Direction::Antidiagonal),

@@ -2,7 +2,7 @@
 ghost use Rattle.std.specs.Prelude.{◌≡◌, length};
 ghost use Rattle.tip_code.specs.Geometry.{cells_in};
 
-use super::chain::{Direction, index_of, is_data};
+use super::chain::{Chain, Direction, index_of, is_data};
 use super::places::place_cell;
 use super::prime::Prime;
 use tip_element::element::Element;
@@ -25,16 +25,16 @@ impl<E: Element> Stripe<'_, E> {
 
     /// The join of the data cells of a line.
     #[tactic(auto, using(crate::proofs::Cells::data_facts))]
-    pub(crate) fn line_join(&self, direction: Direction, line: usize) -> E
-        requires { line < self.now.prime.number - 1 }
-        ensures { result ≡ line_join E.zero E.join self.now.prime.number (cells_of E.zero self.now) direction line }
+    pub(crate) fn line_join(&self, chain: Chain) -> E
+        requires { chain.line < self.now.prime.number - 1 }
+        ensures { result ≡ line_join E.zero E.join self.now.prime.number (cells_of E.zero self.now) chain.direction chain.line }
     {
         let mut all = E::zero();
         // A plain loop and no `fold`, as all joins are here.
         for column in 0..self.prime.number {
-            let row = direction.crossing(self.prime, line, column);
-            if is_data(self.prime, row, column) {
-                all = all.join(self.cells[index_of(self.prime, row, column)]);
+            let cell = chain.crossing(self.prime, column);
+            if is_data(self.prime, cell) {
+                all = all.join(self.cells[index_of(self.prime, cell)]);
             }
         }
         all
@@ -49,7 +49,7 @@ impl<E: Element> Stripe<'_, E> {
     {
         for (place, value) in values.iter().enumerate() {
             let cell = place_cell(self.prime, place);
-            self.cells[index_of(self.prime, cell.row, cell.column)] = *value;
+            self.cells[index_of(self.prime, cell)] = *value;
         }
     }
 
@@ -59,9 +59,10 @@ impl<E: Element> Stripe<'_, E> {
         ensures filled { Filled E.zero E.join self.old.prime.number direction (self.old.prime.number - 1) (cells_of E.zero self.old) (stripe_of E.zero self.old.prime.number self.new.cells.now) }
     {
         for line in 0..self.prime.number - 1 {
-            let parity = self.line_join(direction, line);
-            let column = direction.parity_column(self.prime, line);
-            self.cells[index_of(self.prime, line, column)] = parity;
+            let chain = Chain { direction, line };
+            let parity = self.line_join(chain);
+            let cell = chain.parity_cell(self.prime);
+            self.cells[index_of(self.prime, cell)] = parity;
         }
     }
 

@@ -9,4 +9,4 @@ invariant-loop-column g l =
     let m = g.E.Element in
     let p = l.self.prime.number in
     l.all ≡ join_below m.zero m.join l.column
-    (λ c. datum m.zero p (stripe_of m.zero p l.self.cells.now) (crossing p l.direction l.line c) c)
+    (λ c. datum m.zero p (stripe_of m.zero p l.self.cells.now) (crossing p l.chain.direction l.chain.line c) c)

@@ -16,7 +16,7 @@ loop-line-preserved g c =
     let X = stripe_of m.zero p.number c.args.self.now.cells.now in
     let v = c.line_join-parity.result in
     let at : cell_index p.number i (parity_column p.number d i) ≡ c.index_of.result =
-    sym (c.index_of.ensures.value ∙ ap (cell_index c.loop-line.self.prime.number i) c.parity_column-column.ensures.value ∙ ap (λ q. cell_index q i (parity_column q d i)) same) in
+    sym (c.index_of.ensures.value ∙ ap (λ s. cell_index c.loop-line.self.prime.number s.row s.column) c.parity_cell-cell.ensures.value ∙ ap (λ q. cell_index q i (parity_column q d i)) same) in
     let parity = c.line_join-parity.ensures ∙ ap (λ q. line_join m.zero m.join q (stripe_of m.zero q xs) d i) same in (
       c.loop-line.invariant.0,
       subst (λ (n : ℕ). Filled m.zero m.join p.number d (i + 1) X (stripe_of m.zero p.number (slice_set xs n v))) at
