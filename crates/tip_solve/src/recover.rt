@@ -45,18 +45,17 @@ fn three_runs<E: Element>(prime: Prime, room: &mut [E]) -> (&mut [E], &mut [E], 
     (a, b, c, rest)
 }
 
-/// Of two unknown columns, the join of the two parities that stand in each; `all` is that of all known columns. Joined with its
-/// mirror image a column shows it at the last index, whichever parities are lost.
-fn parities_of_two<E: Element>(at: Pair, all: E, sums: &Sums<'_, E>, room: &mut [E]) -> (E, E)
+/// Of two unknown columns, the join of the two parities that stand in each. Joined with its mirror image a column shows it at the
+/// last index, whichever parities are lost.
+fn parities_of_two<E: Element>(at: Pair, sums: &Sums<'_, E>, mut room: &mut [E]) -> (E, E)
     requires { (at.last < sums.now.prime.number) × (6 * sums.now.prime.number ≤ length room.old) }
     ensures { (X : ℕ → ℕ → E) (r : List E) (e : E) → Encoded E.zero E.join sums.now.prime.number X → KnownSums E.zero E.join sums.now.prime.number (λ c. (c == at.first) || c == at.last) X sums.now.diagonals.now sums.now.antidiagonals.now r e → (result.0 ≡ excess E.zero E.join sums.now.prime.number X at.first) × (result.1 ≡ excess E.zero E.join sums.now.prime.number X at.last) }
 {
     let prime = sums.prime;
     let last = prime.number - 1;
-    let (runs, rest) = room.split_at_mut(3 * prime.number);
-    let mut folded = Sums::within(prime, runs);
-    let (x, y, joins, _rest) = three_runs(prime, rest);
-    sums.fold_into(all, &mut folded);
+    let mut folded = Sums::within(prime, &mut room);
+    let (x, y, joins, _rest) = three_runs(prime, room);
+    sums.fold_lines_into(&mut folded);
     find_pair(at, &folded, joins, x, y);
     (x[last], y[last])
 }
@@ -78,8 +77,8 @@ fn cells_of_two<E: Element>(
 {
     let p = stripe.prime.number;
     let (joins, rest) = next_run(stripe.prime, room);
-    let all = sums.gather(stripe, Sought::Two(at), joins);
-    let (of_first, of_last) = parities_of_two(at, all, sums, rest);
+    sums.gather(stripe, Sought::Two(at), joins);
+    let (of_first, of_last) = parities_of_two(at, sums, rest);
     join_at(sums.antidiagonals, p - 1 - at.first, of_first);
     join_at(sums.antidiagonals, p - 1 - at.last, of_last);
     find_pair(at, sums, joins, x, y);
@@ -118,16 +117,15 @@ fn parities_of_three<E: Element>(
     all: E,
     sums: &Sums<'_, E>,
     joins: &mut [E],
-    room: &mut [E],
+    mut room: &mut [E],
 ) -> (E, E, E)
     requires { (at.last < sums.now.prime.number) × (length joins.old ≡ sums.now.prime.number) × (6 * sums.now.prime.number ≤ length room.old) }
     ensures { (X : ℕ → ℕ → E) (r : List E) → Encoded E.zero E.join sums.now.prime.number X → KnownSums E.zero E.join sums.now.prime.number (λ c. (c == at.first) || (c == at.middle || c == at.last)) X sums.now.diagonals.now sums.now.antidiagonals.now r all → RowSums E.zero E.join sums.now.prime.number X r sums.now.rows.now → (result.0 ≡ excess E.zero E.join sums.now.prime.number X at.first) × (result.1 ≡ excess E.zero E.join sums.now.prime.number X at.middle) × (result.2 ≡ excess E.zero E.join sums.now.prime.number X at.last) }
 {
     let prime = sums.prime;
     let last = prime.number - 1;
-    let (runs, rest) = room.split_at_mut(3 * prime.number);
-    let mut folded = Sums::within(prime, runs);
-    let (x, m, y, _rest) = three_runs(prime, rest);
+    let mut folded = Sums::within(prime, &mut room);
+    let (x, m, y, _rest) = three_runs(prime, room);
     sums.fold_into(all, &mut folded);
     find_three(at, &mut folded, joins, x, m, y);
     (x[last], m[last], y[last])
@@ -184,17 +182,17 @@ fn recover_three<E: Element>(
     write_lost(lost, at.last, y, stripe);
 }
 
-/// Solves at most three lost columns.
-pub(crate) fn recover<E: Element>(lost: Columns, stripe: &mut Stripe<'_, E>, room: &mut [E])
+/// Solves at most three lost columns. That they are so few is found once by the caller, and asked for here and by `Sought::of`: a type
+/// of such sets would be made and taken apart on the way.
+pub(crate) fn recover<E: Element>(lost: Columns, stripe: &mut Stripe<'_, E>, mut room: &mut [E])
     requires { (size lost ≤ 3) × (13 * stripe.old.prime.number ≤ length room.old) }
     ensures same { SameBuffer stripe.old stripe.new }
     ensures solved { Solved E.zero E.join stripe.old.prime.number (in_set lost) (cells_of E.zero stripe.old) (stripe_of E.zero stripe.old.prime.number stripe.new.cells.now) }
 {
     let prime = stripe.prime;
-    let (runs, rest) = room.split_at_mut(3 * prime.number);
-    let mut sums = Sums::within(prime, runs);
+    let mut sums = Sums::within(prime, &mut room);
     match Sought::of(prime, lost) {
-        Sought::Two(at) => recover_two(at, lost, stripe, &mut sums, rest),
-        Sought::Three(at) => recover_three(at, lost, stripe, &mut sums, rest),
+        Sought::Two(at) => recover_two(at, lost, stripe, &mut sums, room),
+        Sought::Three(at) => recover_three(at, lost, stripe, &mut sums, room),
     }
 }

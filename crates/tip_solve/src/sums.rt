@@ -93,20 +93,24 @@ pub(crate) fn add_row_parities<E: Element>(stripe: &Stripe<'_, E>, run: &mut [E]
 }
 
 impl<'a, E: Element> Sums<'a, E> {
-    ghost use Rattle.std.specs.Prelude.{◌≡◌, ℕ, ◌+◌, ◌-◌, ◌*◌, ◌%◌, ◌<◌, length, slice_index_or};
+    ghost use Rattle.std.specs.Prelude.{◌≡◌, ℕ, ◌+◌, ◌-◌, ◌*◌, ◌%◌, ◌<◌, ◌≤◌, length, slice_index_or};
     ghost use Rattle.tip_code.specs.Buffer.{cells_of};
     ghost use Rattle.tip_algebra.specs.Cyclic.{Mirrored, opposite};
     ghost use Rattle.tip_algebra.specs.Known.{KnownSums};
     ghost use Rattle.tip_algebra.specs.Unfolded.{unfolded, unfolded_anti, excess};
     ghost use Rattle.tip_solve.specs.Seeking.{sought};
 
-    /// Three runs in room of 3p elements, which may hold anything.
-    pub(crate) fn within(prime: Prime, room: &'a mut [E]) -> Sums<'a, E>
-        requires { length room.old ≡ 3 * prime.number }
-        ensures { result.prime.number ≡ prime.number }
+    /// Cuts three runs off the room, which may hold anything. The rest stays in `room`: of a function that gives a struct with ghost
+    /// fields and a `&mut` in one tuple nothing would be proved.
+    pub(crate) fn within(prime: Prime, room: &mut &'a mut [E]) -> Sums<'a, E>
+        requires { 3 * prime.number ≤ length room.old.now }
+        ensures prime { result.prime.number ≡ prime.number }
+        ensures rest { length room.new.now + 3 * prime.number ≡ length room.old.now }
     {
-        let (rows, rest) = room.split_at_mut(prime.number);
-        let (diagonals, antidiagonals) = rest.split_at_mut(prime.number);
+        let (rows, rest) = std::mem::take(room).split_at_mut(prime.number);
+        let (diagonals, rest) = rest.split_at_mut(prime.number);
+        let (antidiagonals, rest) = rest.split_at_mut(prime.number);
+        *room = rest;
         Sums {
             prime,
             rows,
@@ -115,17 +119,13 @@ impl<'a, E: Element> Sums<'a, E> {
         }
     }
 
-    /// Joins each run with its mirror image: that of the diagonals is seen in the antidiagonals. Last of the rows stands `all`.
-    pub(crate) fn fold_into(&self, all: E, folded: &mut Sums<'_, E>)
+    /// Joins the diagonals and the antidiagonals with their mirror images: that of each is seen in the other.
+    pub(crate) fn fold_lines_into(&self, folded: &mut Sums<'_, E>)
         requires { folded.old.prime.number ≡ self.now.prime.number }
         ensures prime { folded.new.prime.number ≡ self.now.prime.number }
-        ensures rows { (i : ℕ) → i < self.now.prime.number - 1 → slice_index_or folded.new.rows.now i E.zero ≡ E.join (slice_index_or self.now.rows.now i E.zero) (slice_index_or self.now.rows.now (opposite self.now.prime.number i % self.now.prime.number) E.zero) }
-        ensures last { slice_index_or folded.new.rows.now (self.now.prime.number - 1) E.zero ≡ all }
         ensures diagonals { Mirrored E.zero E.join self.now.prime.number self.now.diagonals.now self.now.antidiagonals.now folded.new.diagonals.now }
         ensures antidiagonals { Mirrored E.zero E.join self.now.prime.number self.now.antidiagonals.now self.now.diagonals.now folded.new.antidiagonals.now }
     {
-        mirror(self.prime, self.rows, self.rows, folded.rows);
-        folded.rows[self.prime.number - 1] = all;
         mirror(
             self.prime,
             self.diagonals,
@@ -138,6 +138,20 @@ impl<'a, E: Element> Sums<'a, E> {
             self.diagonals,
             folded.antidiagonals,
         );
+    }
+
+    /// Joins each run with its mirror image; that of the rows is seen in themselves. Last of the rows stands `all`.
+    pub(crate) fn fold_into(&self, all: E, folded: &mut Sums<'_, E>)
+        requires { folded.old.prime.number ≡ self.now.prime.number }
+        ensures prime { folded.new.prime.number ≡ self.now.prime.number }
+        ensures rows { (i : ℕ) → i < self.now.prime.number - 1 → slice_index_or folded.new.rows.now i E.zero ≡ E.join (slice_index_or self.now.rows.now i E.zero) (slice_index_or self.now.rows.now (opposite self.now.prime.number i % self.now.prime.number) E.zero) }
+        ensures last { slice_index_or folded.new.rows.now (self.now.prime.number - 1) E.zero ≡ all }
+        ensures diagonals { Mirrored E.zero E.join self.now.prime.number self.now.diagonals.now self.now.antidiagonals.now folded.new.diagonals.now }
+        ensures antidiagonals { Mirrored E.zero E.join self.now.prime.number self.now.antidiagonals.now self.now.diagonals.now folded.new.antidiagonals.now }
+    {
+        self.fold_lines_into(folded);
+        mirror(self.prime, self.rows, self.rows, folded.rows);
+        folded.rows[self.prime.number - 1] = all;
     }
 
     /// Joins a known column in, and gives the join of the two parities that stand in it.

@@ -21,12 +21,12 @@ returns-clause-found g c W enc alike i b =
     let f = c.args.at.first in
     let h = c.args.at.last in
     let t = sought (Two c.args.at) in
-    let G = c.gather-all.new.self in
-    let same = c.gather-all.ensures.prime in
+    let G = c.gather.new.self in
+    let same = c.gather.ensures.prime in
     let d = G.diagonals.now in
     let a = G.antidiagonals.now in
     let r = G.rows.now in
-    let e = c.gather-all.result in
+    let e = c.gather.result in
     let a₂ = c.join_at-2.new.elements in
     let x = c.find_pair.new.x in
     let y = c.find_pair.new.y in
@@ -38,7 +38,7 @@ returns-clause-found g c W enc alike i b =
     let long-x : length x ≡ p = c.find_pair.auto.x ∙ c.requires.sized.0 in
     let long-y : length y ≡ p = c.find_pair.auto.y ∙ c.requires.sized.1 in
     let o = c.parities_of_two-of_first in
-    let known = known_same m.zero m.join p t (stripe_of m.zero p s.cells.now) W d a r e alike c.gather-all.ensures.known in
+    let known = known_same m.zero m.join p t (stripe_of m.zero p s.cells.now) W d a r e alike c.gather.ensures.known in
     let parities =
     subst (λ (n : ℕ). (X : ℕ → ℕ → g.row.E.Denot) (z : List g.row.E.Denot) (k : g.row.E.Denot) → Encoded m.zero m.join n X → KnownSums m.zero m.join n t X d a z k → (o.result.0 ≡ excess m.zero m.join n X f) × (o.result.1 ≡ excess m.zero m.join n X h))
     same o.ensures in

@@ -18,13 +18,13 @@ returns g c X r e enc known =
     let h = c.args.at.last in
     let some : 0 < p = omega (arith, s.prime.low) in
     let E = folded m.zero m.join p X in
-    let F = c.fold_into.new.folded in
+    let F = c.fold_lines_into.new.folded in
     let x = c.find_pair.new.x in
     let y = c.find_pair.new.y in
-    let sums = two_folded m.laws p facts X enc f h c.args.at.ordered c.requires.0 s.diagonals.now s.antidiagonals.now r e known F.diagonals.now F.antidiagonals.now c.fold_into.ensures.diagonals c.fold_into.ensures.antidiagonals in
+    let sums = two_folded m.laws p facts X enc f h c.args.at.ordered c.requires.0 s.diagonals.now s.antidiagonals.now r e known F.diagonals.now F.antidiagonals.now c.fold_lines_into.ensures.diagonals c.fold_lines_into.ensures.antidiagonals in
     let found =
     subst (λ (n : ℕ). (X Y : ℕ → g.row.E.Denot) → PairSums m.zero m.join n f h F.diagonals.now F.antidiagonals.now X Y → Holds m.zero n x X × Holds m.zero n y Y)
-    c.fold_into.ensures.prime c.find_pair.ensures in
+    c.fold_lines_into.ensures.prime c.find_pair.ensures in
     let held = found (E f) (E h) sums in
     let long-x : length x ≡ p = c.find_pair.auto.x ∙ c.three_runs-x.ensures.first in
     let long-y : length y ≡ p = c.find_pair.auto.y ∙ c.three_runs-x.ensures.second in
