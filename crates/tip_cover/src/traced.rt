@@ -41,11 +41,11 @@ impl<'a> Traced<'a> {
     fn covers(&self, chain: Chain, place: usize) -> bool
         ensures { (r c : ℕ) → Place (prime_of self.now.geometry) place r c → result ≡ covers (prime_of self.now.geometry) chain.direction chain.line r c }
     {
-        // A `match`: of a closure in `is_ok_and` the proof would not learn what `covers` promises.
-        match self.geometry.locate(place) {
-            Ok(cell) => self.geometry.covers(chain, cell),
-            Err(_) => false,
-        }
+        // Copied and moved in: of a closure that holds a reference the proof would learn nothing here.
+        let geometry = self.geometry;
+        geometry
+            .locate(place)
+            .is_ok_and(move |cell| geometry.covers(chain, cell))
     }
 
     /// The places that the chain's parity covers, and how many there are.
