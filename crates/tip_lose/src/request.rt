@@ -40,12 +40,13 @@ fn number(word: &str, place: usize) -> Result<usize, Refusal> {
 
 /// The columns that the words after the first say, or nothing where one is too large for any set.
 fn columns(words: &[String]) -> Result<Option<Columns>, Refusal> {
-    let mut all = Some(Columns(0));
-    for (before, word) in words.iter().enumerate() {
-        let column = number(word.as_str(), before.saturating_add(2))?;
-        all = all.and_then(|some| some.with(column));
-    }
-    Ok(all)
+    words
+        .iter()
+        .enumerate()
+        .try_fold(Some(Columns(0)), |all, (before, word)| {
+            let column = number(word.as_str(), before.saturating_add(2))?;
+            Ok(all.and_then(|some| some.with(column)))
+        })
 }
 
 /// The request for this prime and these columns; without columns one of them is too large for any set.

@@ -1,9 +1,9 @@
 // The comparison of parities with the places that they cover, and the texts that are shown.
 use crate::elements::STOPS;
+use crate::stripes::encoded;
 use std::alloc::Global;
 use std::process::Abort;
 use std::test::Fail;
-use tip_code::encode::encode;
 use tip_code::geometry::Geometry;
 use tip_code::stop::Stop;
 use tip_cover::{Tally, compare, inspect, own_numbers};
@@ -13,10 +13,8 @@ use tip_element::trace::Trace;
 /// A stripe in which each place holds its own number. The program `tipcover` takes the same steps, and has nothing to lend.
 fn numbered(heap: Global, geometry: Geometry) -> Result<Vec<Trace>, Fail> {
     let mut values = vec![in heap; Trace::zero(); geometry.places()]?;
-    let mut cells = vec![in heap; Trace::zero(); geometry.cells()]?;
     own_numbers(geometry, &mut values)?;
-    encode(geometry, &values, &mut cells)?;
-    Ok(cells)
+    encoded(heap, geometry, &values, Trace::zero())
 }
 
 /// Every chain of the stripe agrees, and there is none past the last.

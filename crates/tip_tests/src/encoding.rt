@@ -1,6 +1,6 @@
 // Encoding: every cell at every prime, and every refusal.
 use crate::reference::{PRIMES, buffer_cells, data_cells, expected_cells, numbers, reaches};
-use crate::stripes::{check_same, words, words_of};
+use crate::stripes::{check_same, encoded, words, words_of};
 use std::alloc::Global;
 use std::process::Abort;
 use std::test::Fail;
@@ -8,22 +8,8 @@ use tip_code::chain::Cell;
 use tip_code::encode::encode;
 use tip_code::geometry::Geometry;
 use tip_code::stop::Stop;
-use tip_element::element::Element;
 use tip_element::trace::Trace;
 use tip_element::word::Word;
-
-/// The stripe that is made of these places in a buffer that held something else.
-pub fn encoded<E: Element + Clone>(
-    heap: Global,
-    p: usize,
-    places: &[E],
-    stale: E,
-) -> Result<Vec<E>, Fail> {
-    let geometry = Geometry::new(p, 1)?;
-    let mut cells = vec![in heap; stale; buffer_cells(heap, p)?.len()]?;
-    encode(geometry, places, &mut cells)?;
-    Ok(cells)
-}
 
 /// Encodes these values and holds every cell to the rules.
 fn check_words(
@@ -33,7 +19,8 @@ fn check_words(
     seed: u64,
     values: &[u64],
 ) -> Result<(), Fail> {
-    let got = encoded(heap, p, &words_of(heap, values)?, Word(u64::MAX))?;
+    let geometry = Geometry::new(p, 1)?;
+    let got = encoded(heap, geometry, &words_of(heap, values)?, Word(u64::MAX))?;
     let wanted = words_of(heap, &expected_cells(heap, p, values)?)?;
     check_same(rt, "encode", seed, &got, &wanted);
     Ok(())
@@ -87,8 +74,9 @@ fn traces_at_the_small_primes(rt: HostRuntime) -> Result<(), Fail> {
     let heap = rt.alloc();
     let stale = Trace::single(127).ok_or("no 127")?;
     for p in [3, 5, 7, 11] {
+        let geometry = Geometry::new(p, 1)?;
         let data = data_cells(heap, p)?;
-        let cells = encoded(heap, p, &numbered_traces(heap, data.len())?, stale)?;
+        let cells = encoded(heap, geometry, &numbered_traces(heap, data.len())?, stale)?;
         check_traces(&rt, heap, p, &data, &cells)?;
     }
     Ok(())

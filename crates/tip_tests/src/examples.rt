@@ -1,7 +1,6 @@
 // Examples worked by hand.
-use crate::encoding::encoded;
 use crate::reference::at;
-use crate::stripes::words_of;
+use crate::stripes::{encoded, words_of};
 use std::alloc::Global;
 use std::process::Abort;
 use std::test::Fail;
@@ -38,7 +37,8 @@ fn check_rows<const N: usize>(rt: &impl Abort, got: &[Word], wanted: &[[u64; N]]
 
 /// The stripe of these values at p.
 fn stripe(heap: Global, p: usize, values: &[u64]) -> Result<Vec<Word>, Fail> {
-    encoded(heap, p, &words_of(heap, values)?, Word(99))
+    let geometry = Geometry::new(p, 1)?;
+    encoded(heap, geometry, &words_of(heap, values)?, Word(99))
 }
 
 #[test]

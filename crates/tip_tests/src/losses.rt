@@ -5,6 +5,7 @@ use std::alloc::Global;
 use std::process::Abort;
 use std::test::Fail;
 use tip_code::geometry::Geometry;
+use tip_code::stop::Stop;
 use tip_columns::Columns;
 use tip_element::element::Element;
 use tip_element::slices::all_zero;
@@ -12,8 +13,21 @@ use tip_element::trace::Trace;
 use tip_element::word::Word;
 use tip_solve::solve::{solve, solve_beside, work_len};
 
+/// The call accepts the lost columns, and the stripe is whole again.
+fn check_answer<E: Element + PartialEq>(
+    rt: &impl Abort,
+    call: &str,
+    mask: u64,
+    answer: Result<(), Stop>,
+    cells: &[E],
+    whole: &[E],
+) {
+    assert_eq!(rt; answer, Ok(()), "{call}, lost {mask:b}");
+    check_same(rt, call, mask, cells, whole);
+}
+
 /// Spoils the lost columns, solves them with a work buffer that holds something, and holds the stripe to the whole one.
-fn check_solved<E: Element + Clone>(
+fn check_solved<E: Element + Clone + PartialEq>(
     rt: &impl Abort,
     heap: Global,
     geometry: Geometry,
@@ -24,17 +38,16 @@ fn check_solved<E: Element + Clone>(
     let mut cells = spoiled(heap, geometry.prime().number, whole, mask, stale)?;
     let mut work = vec![in heap; stale; work_len(geometry)]?;
     let answer = solve(geometry, &mut cells, Columns(mask), &mut work);
-    assert_eq!(rt; answer, Ok(()), "solve, lost {mask:b}");
+    check_answer(rt, "solve", mask, answer, &cells, whole);
     assert!(rt;
         all_zero(&work),
         "the work buffer is cleared, lost {mask:b}"
     );
-    check_same(rt, "solve", mask, &cells, whole);
     Ok(())
 }
 
-/// The same with stripe buffer and room in one work buffer, so that it shares no more with `check_solved` than what it is given.
-fn check_beside<E: Element + Clone>(
+/// The same of `solve_beside`, with stripe buffer and room as two parts of one work buffer.
+fn check_beside<E: Element + Clone + PartialEq>(
     rt: &impl Abort,
     heap: Global,
     geometry: Geometry,
@@ -48,13 +61,12 @@ fn check_beside<E: Element + Clone>(
     assert!(rt; whole.len() <= work.len());
     let (cells, room) = work.split_at_mut(whole.len());
     let answer = solve_beside(geometry, cells, Columns(mask), room);
-    assert_eq!(rt; answer, Ok(()), "solve_beside, lost {mask:b}");
-    check_same(rt, "solve_beside", mask, cells, whole);
+    check_answer(rt, "solve_beside", mask, answer, cells, whole);
     Ok(())
 }
 
 /// All sets of lost columns, for the stripe of these values.
-fn check_sets<E: Element + Clone>(
+fn check_sets<E: Element + Clone + PartialEq>(
     rt: &impl Abort,
     heap: Global,
     geometry: Geometry,

@@ -22,11 +22,12 @@ struct Call {
 
 /// The first elements that solving uses are zero, and those beyond are as they were.
 fn check_cleared(rt: &impl Abort, before: &[Word], after: &[Word], used: usize) {
-    assert_eq!(rt; before.len(), after.len());
-    for (index, (a, b)) in before.iter().zip(after).enumerate() {
-        let wanted = if index < used { Word(0) } else { *a };
-        assert_eq!(rt; *b, wanted, "{used} elements are used, index {index}");
-    }
+    assert_eq!(rt; after.len(), before.len());
+    assert!(rt; used <= after.len());
+    let (_, kept) = before.split_at(used);
+    let (front, beyond) = after.split_at(used);
+    assert!(rt; all_zero(front), "{used} elements are used");
+    check_same(rt, "beyond what is used", used as u64, beyond, kept);
 }
 
 /// The call gives the stop and leaves the stripe buffer. Gives what the work buffer or room held before and holds after.

@@ -1,4 +1,5 @@
-// Stripes to lose columns of, and the sets of columns that they lose.
+// Stripes to lose columns of, and the sets of columns that they lose. Here and in the other modules `rt` and `heap` are handed on side
+// by side: what asserts takes an `impl Abort`, which lends no heap, and both bounds in each signature are no plainer.
 use crate::reference::{buffer_cells, chains, data_cells, is_in, numbers};
 use std::alloc::{AllocError, Global};
 use std::process::Abort;
@@ -33,15 +34,14 @@ pub fn traces(heap: Global, seed: u64, count: usize) -> Result<Vec<Trace>, Fail>
     )
 }
 
-/// The word with just this bit, if it has one.
+/// The set of one index, as a mask; empty where a word has no bit for the index.
 pub fn bit(index: usize) -> u64 {
     if index < 64 { 1 << index } else { 0 }
 }
 
 /// The masks of all sets of at most three columns from 0 to `last`.
 pub fn masks(heap: Global, last: usize) -> Result<Vec<u64>, Fail> {
-    let mut all = Vec::new(heap);
-    all.push(0u64)?;
+    let mut all = vec![in heap; 0u64; 1]?;
     for column in 0..=last {
         let more = grown(heap, &all, bit(column))?;
         all.extend_from_slice(&more)?;
@@ -64,8 +64,11 @@ pub fn is_lost(p: usize, mask: u64, index: usize) -> bool {
 
 /// The element that a stripe buffer holds in a cell.
 fn held<E: Element>(buffer: &[Cell], cells: &[E], cell: Cell) -> Option<E> {
-    let index = buffer.iter().position(|at| *at == cell)?;
-    cells.get(index).copied()
+    buffer
+        .iter()
+        .zip(cells)
+        .find(|(at, _)| **at == cell)
+        .map(|(_, element)| *element)
 }
 
 /// Every chain of an encoded stripe joins to zero.
@@ -88,7 +91,7 @@ fn check_chains<E: Element>(
 }
 
 /// The data cells hold these values.
-fn check_data<E: Element>(
+fn check_data<E: Element + PartialEq>(
     rt: &impl Abort,
     heap: Global,
     p: usize,
@@ -100,36 +103,54 @@ fn check_data<E: Element>(
     assert_eq!(rt; data.len(), values.len());
     for (cell, value) in data.iter().zip(values) {
         let element = held(&buffer, cells, *cell).ok_or("no such cell")?;
-        assert!(rt; element.join(*value).is_zero(), "p {p}, {cell:?}");
+        assert!(rt; element == *value, "p {p}, {cell:?}");
     }
     Ok(())
 }
 
 /// Two runs are the same, element by element; where they are not, the call and its case, as the lost columns, are named.
-pub fn check_same<E: Element>(rt: &impl Abort, call: &str, case: u64, got: &[E], wanted: &[E]) {
+pub fn check_same<E: Element + PartialEq>(
+    rt: &impl Abort,
+    call: &str,
+    case: u64,
+    got: &[E],
+    wanted: &[E],
+) {
     let count = wanted.len();
     assert_eq!(rt; got.len(), count, "{call}, case {case:b}");
     for (index, (a, b)) in got.iter().zip(wanted).enumerate() {
-        let is_same = a.join(*b).is_zero();
         assert!(rt;
-            is_same,
+            a == b,
             "{call}, case {case:b}, {count} elements, index {index}"
         );
     }
 }
 
+/// The stripe that is made of these places in a buffer that held something else.
+pub fn encoded<E: Element + Clone>(
+    heap: Global,
+    geometry: Geometry,
+    places: &[E],
+    stale: E,
+) -> Result<Vec<E>, Fail> {
+    let count = buffer_cells(heap, geometry.prime().number)?.len();
+    let mut cells = vec![in heap; stale; count]?;
+    encode(geometry, places, &mut cells)?;
+    Ok(cells)
+}
+
 /// The stripe of these values, once it is seen that it obeys the rules.
-pub fn whole<E: Element + Clone>(
+pub fn whole<E: Element + Clone + PartialEq>(
     rt: &impl Abort,
     heap: Global,
     geometry: Geometry,
     values: &[E],
     stale: E,
 ) -> Result<Vec<E>, Fail> {
-    let mut cells = vec![in heap; stale; geometry.cells()]?;
-    encode(geometry, values, &mut cells)?;
-    check_chains(rt, heap, geometry.prime().number, &cells)?;
-    check_data(rt, heap, geometry.prime().number, values, &cells)?;
+    let cells = encoded(heap, geometry, values, stale)?;
+    let p = geometry.prime().number;
+    check_chains(rt, heap, p, &cells)?;
+    check_data(rt, heap, p, values, &cells)?;
     Ok(cells)
 }
 

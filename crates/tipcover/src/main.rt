@@ -10,7 +10,7 @@ use tip_cover::{LARGEST_TRACED, Tally, compare, inspect, own_numbers};
 use tip_element::element::Element;
 use tip_element::trace::Trace;
 
-/// Encodes a stripe of own numbers.
+/// Encodes a stripe of own numbers. The tests take the same steps, since a program has nothing to lend.
 fn encoded(rt: &HostRuntime, geometry: Geometry) -> anyhow::Result<Vec<Trace>> {
     let heap = rt.alloc();
     let mut values = vec![in heap; Trace::zero(); geometry.places()]?;
@@ -48,14 +48,17 @@ fn show(rt: &HostRuntime, p: usize) -> anyhow::Result<Tally> {
 
 /// Compares the stripes of all primes whose places a trace can hold, and prints what came of it.
 fn main(rt: HostRuntime) -> anyhow::Result<()> {
-    let mut compared: usize = 0;
-    let mut agreed: usize = 0;
+    let mut all = Tally {
+        compared: 0,
+        agreed: 0,
+    };
     for p in PRIMES.into_iter().filter(|p| *p <= LARGEST_TRACED) {
         let tally = show(&rt, p)?;
         // Nothing bounds the sums for the proof.
-        compared = compared.saturating_add(tally.compared);
-        agreed = agreed.saturating_add(tally.agreed);
+        all.compared = all.compared.saturating_add(tally.compared);
+        all.agreed = all.agreed.saturating_add(tally.agreed);
     }
+    let Tally { compared, agreed } = all;
     println!(rt; "{agreed} of {compared} parities hold just the places that the rules give them")?;
     if agreed != compared {
         return Err(anyhow!("encoding and rules disagree"));
