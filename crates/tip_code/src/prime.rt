@@ -19,7 +19,8 @@ pub struct Prime {
 }
 
 impl Prime {
-    /// The number as a prime. Stop 1: it is not one of the ten.
+    /// The number as a prime. Stop 1: it is not one of the ten. The promise of a `TryFrom` would stand in a definition of `specs/`, and not
+    /// here.
     pub fn new(number: usize) -> Result<Prime, Stop>
         ensures { MatchResult result (λ p. p.number ≡ number) (λ s. (s ≡ stop.Prime) × (listed number ≡ false)) }
     {

@@ -12,7 +12,8 @@ use tip_element::word::has_bit;
 #[derive(Clone, Copy, PartialEq, Eq, Debug)]
 pub struct Columns(pub u64);
 
-/// The word with just this bit.
+/// The word with just this bit. That there is one is found by `with`, and asked for on the way here: a type of such columns would be
+/// made and read by two steps alone.
 fn bit_of(column: usize) -> u64
     requires { column < 64 }
     ensures { result ≡ 2 ^ column }

@@ -22,7 +22,8 @@ pub fn join_all<E: Element>(elements: &[E]) -> E
 pub fn join_each<E: Element>(elements: &mut [E], others: &[E])
     ensures { Joined E.zero E.join elements.old others.now elements.new }
 {
-    // By index: of a slice that a `zip` over its `iter_mut` has written, nothing can be proved but its length.
+    // By index: of a slice that a `zip` over its `iter_mut` has written, nothing can be proved but its length, and with `enumerate` the
+    // others would still be reached by index.
     for i in 0..elements.len().min(others.len()) {
         elements[i] = elements[i].join(others[i]);
     }
@@ -45,6 +46,7 @@ pub fn all_zero<E: Element>(elements: &[E]) -> bool
 pub fn clear<E: Element>(elements: &mut [E])
     ensures { AllZero E.zero elements.new }
 {
+    // No `fill`: it asks that a `clone` of the element cannot fail, which is not known of every kind.
     for element in elements.iter_mut() {
         *element = E::zero();
     }

@@ -6,7 +6,7 @@ use super::element::Element;
 use super::word::has_bit;
 use std::fmt;
 
-/// A set of numbers from 0 to 127, kept as the bits of two words: its numbers are to be counted as the ones in two words of 64.
+/// A set of numbers from 0 to 127, kept as the bits of two words of 64: how many numbers it has is how many ones they have.
 /// A join keeps each number that is in just one of the two sets.
 #[derive(Clone, Copy, PartialEq, Eq, Debug)]
 pub struct Trace {
@@ -55,7 +55,8 @@ fn ones_of(low: u64, high: u64) -> u32
     low.count_ones() + high.count_ones()
 }
 
-/// The set that holds just this number.
+/// The set that holds just this number, which `single` has found small enough: a type of such numbers would be made there and read
+/// here alone.
 pub(crate) fn just(number: usize) -> Trace
     requires { number < 128 }
     ensures { Just number result }

@@ -5,7 +5,7 @@ ghost use Rattle.tip_algebra.specs.Cyclic.{Holds, Steps, Divided};
 use tip_code::prime::Prime;
 use tip_element::element::Element;
 
-/// The index one step on.
+/// The index one step on. Indices and steps are plain numbers of loops, so that they are below p is said in clauses.
 fn next_index(prime: Prime, at: usize, step: usize) -> usize
     requires { (at < prime.number) × (step < prime.number) }
     ensures value { result ≡ (at + step) % prime.number }
