@@ -21,7 +21,7 @@ fn bit_of(column: usize) -> u64
     1 << column
 }
 
-/// What is left of a word without its bits up to `last`.
+/// What is left of a word without its bits up to `last`, for which `within` has found that there are more.
 fn above(word: u64, last: usize) -> u64
     requires { last < 63 }
     ensures { result ≡ word / 2 ^ (last + 1) }

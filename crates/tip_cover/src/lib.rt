@@ -80,7 +80,7 @@ fn check_size(geometry: Geometry, held: usize, needed: usize) -> Result<(), Stop
     Ok(())
 }
 
-/// The set of one place's number.
+/// The set of one place's number. Places are plain numbers of loops, so that they are small enough is said in a clause.
 fn own(place: usize) -> Trace
     requires { place < 128 }
     ensures { Just place result }

@@ -6,8 +6,8 @@ use super::element::Element;
 use super::word::has_bit;
 use std::fmt;
 
-/// A set of numbers from 0 to 127, kept as the bits of two words of 64: how many numbers it has is how many ones they have.
-/// A join keeps each number that is in just one of the two sets.
+/// A set of numbers from 0 to 127, kept as the bits of two words of 64, a rule of this project: how many numbers it has is how many
+/// ones they have. A join keeps each number that is in just one of the two sets.
 #[derive(Clone, Copy, PartialEq, Eq, Debug)]
 pub struct Trace {
     pub low: u64,

@@ -8,7 +8,8 @@ use tip_code::chain::{Cell, Chain, Direction, Parities};
 use tip_code::geometry::Geometry;
 use tip_code::stop::Stop;
 
-/// Holds the places to the data cells, and refuses the next place and the last number of all.
+/// Holds the places to the data cells, and refuses the next place and the last number of all. Here and below p goes beside the geometry
+/// that is made of it: the reference asks the library for nothing.
 fn check_places(rt: &impl Abort, geometry: Geometry, p: usize, data: &[Cell]) {
     for (place, cell) in data.iter().enumerate() {
         assert_eq!(rt; geometry.locate(place), Ok(*cell), "p {p}, place {place}");

@@ -10,7 +10,8 @@ use tip_cover::{Tally, compare, inspect, own_numbers};
 use tip_element::element::Element;
 use tip_element::trace::Trace;
 
-/// A stripe in which each place holds its own number. The program `tipcover` takes the same steps, and has nothing to lend.
+/// A stripe in which each place holds its own number. The program `tipcover` takes the same steps: a library would have to lend them for
+/// the two alone.
 fn numbered(heap: Global, geometry: Geometry) -> Result<Vec<Trace>, Fail> {
     let mut values = vec![in heap; Trace::zero(); geometry.places()]?;
     own_numbers(geometry, &mut values)?;

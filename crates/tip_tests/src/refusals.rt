@@ -27,7 +27,7 @@ fn check_cleared(rt: &impl Abort, before: &[Word], after: &[Word], used: usize) 
     let (_, kept) = before.split_at(used);
     let (front, beyond) = after.split_at(used);
     assert!(rt; all_zero(front), "{used} elements are used");
-    check_same(rt, "beyond what is used", used as u64, beyond, kept);
+    check_same(rt, "beyond what is used", 0, beyond, kept);
 }
 
 /// The call gives the stop and leaves the stripe buffer. Gives what the work buffer or room held before and holds after.

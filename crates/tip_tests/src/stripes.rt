@@ -108,7 +108,7 @@ fn check_data<E: Element + PartialEq>(
     Ok(())
 }
 
-/// Two runs are the same, element by element; where they are not, the call and its case, as the lost columns, are named.
+/// Two runs are the same, element by element; where they are not, the call and its case, as the lost columns or a seed, are named.
 pub fn check_same<E: Element + PartialEq>(
     rt: &impl Abort,
     call: &str,
@@ -126,16 +126,16 @@ pub fn check_same<E: Element + PartialEq>(
     }
 }
 
-/// The stripe that is made of these places in a buffer that held something else.
+/// The stripe whose places hold these values, made in a buffer that held `stale` in each cell.
 pub fn encoded<E: Element + Clone>(
     heap: Global,
     geometry: Geometry,
-    places: &[E],
+    values: &[E],
     stale: E,
 ) -> Result<Vec<E>, Fail> {
     let count = buffer_cells(heap, geometry.prime().number)?.len();
     let mut cells = vec![in heap; stale; count]?;
-    encode(geometry, places, &mut cells)?;
+    encode(geometry, values, &mut cells)?;
     Ok(cells)
 }
 

@@ -10,7 +10,7 @@ use tip_cover::{LARGEST_TRACED, Tally, compare, inspect, own_numbers};
 use tip_element::element::Element;
 use tip_element::trace::Trace;
 
-/// Encodes a stripe of own numbers. The tests take the same steps, since a program has nothing to lend.
+/// Encodes a stripe of own numbers. The tests take the same steps: a library would have to lend them for the two alone.
 fn encoded(rt: &HostRuntime, geometry: Geometry) -> anyhow::Result<Vec<Trace>> {
     let heap = rt.alloc();
     let mut values = vec![in heap; Trace::zero(); geometry.places()]?;
