@@ -17,7 +17,6 @@ use Rattle.tip_code.specs.declared.stop.Stop.TheVariants as stop
 use Rattle.tip_solve.specs.Solving.{too_short}
 use Rattle.tip_solve.proofs.Stopping.{first_stop, stopped_few}
 use Rattle.tip_examples.specs.Worked.{holding, EncodingOf, Rows, one_to_twelve, place_four_cleared, Worked}
-use Rattle.tip_examples.specs.WorkedSolving.{WorkedSolving}
 
 -- what the cells of an encoding of f at p are, where the test of their numbers passes
 module _ (p : ℕ) (t : listed p ≡ true) (f : ℕ → Word) where
@@ -94,10 +93,6 @@ worked = record {
   nine = λ n. size_prime 9 n refl;
   most = size_none 5 4096 refl refl;
   too_many = size_stripes 5 4097 refl refl;
-}
-
-pub worked_solving : WorkedSolving
-worked_solving = record {
   work_short = λ lost. first_stop 5 24 143 144 lost stop.Work (too_short (lit< tt)) (λ _. refl) (λ l. omega arith) (λ l. absurd (omega arith)) (λ l. omega arith);
   work_enough = λ lost within few. stopped_few 5 24 144 144 lost (Unit {0}) (Unit {0}) (Ok tt) (record { sized = refl; enough = lit≤ tt; columns = within }) (few, tt);
 }

@@ -1,11 +1,14 @@
 -- Worked examples, in the definitions that the contracts of the code use. The prime is 5 unless another is named.
-use Rattle.std.specs.Prelude.{◌≡◌, ℕ, ◌<◌, ◌≤◌, List, [], ◌∷◌, map, slice_index, slice_index_or}
+use Rattle.std.specs.Prelude.{◌≡◌, ℕ, ◌<◌, ◌≤◌, true, List, [], ◌∷◌, map, slice_index, slice_index_or}
 use Rattle.tip_code.specs.Encoding.{Encoded, Encodes}
 use Rattle.tip_code.specs.Geometry.{SizeStop}
 use Rattle.tip_code.specs.Places.{Place, PlaceStop}
 use Rattle.tip_code.specs.Stops.{First}
 use Rattle.tip_code.specs.Stripe.{cell, Concerned}
+use Rattle.tip_columns.specs.Sets.{in_set, size}
+use Rattle.tip_columns.specs.declared.Columns.{Columns}
 use Rattle.tip_element.specs.Words.{word, no_word, word_join}
+use Rattle.tip_solve.specs.Solving.{work_in, SolveStop}
 use Rattle.tip_code.specs.declared.stop.Stop.{Stop}
 use Rattle.tip_code.specs.declared.stop.Stop.TheVariants as stop
 use Rattle.tip_element.specs.declared.word.Word.{Word}
@@ -53,3 +56,6 @@ pub record Worked : Type 0 where
   -- 4096 stripes pass, and 4097 are stop 2
   pub most : (t : Stop) → SizeStop 5 4096 t → ⊥
   pub too_many : First (SizeStop 5 4097) stop.Stripes
+  -- a work buffer of 143 elements is stop 9, and 144 pass with any three columns
+  pub work_short : (lost : Columns) → First (SolveStop 5 24 143 (work_in 5) lost) stop.Work
+  pub work_enough : (lost : Columns) → ((c : ℕ) → in_set lost c ≡ true → c ≤ 5) → size lost ≤ 3 → (t : Stop) → SolveStop 5 24 144 (work_in 5) lost t → ⊥
