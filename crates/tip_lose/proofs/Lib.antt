@@ -1,1 +1,2 @@
 mod Refusals
+mod Trials

@@ -1,4 +1,7 @@
 // A stripe that loses columns, and what solving makes of it.
+ghost use Rattle.std.specs.Prelude.{◌≡◌};
+ghost use Rattle.tip_element.specs.Laws.{Exactly};
+
 use crate::request::Request;
 use std::alloc::{AllocError, Global};
 use tip_code::encode::encode;
@@ -53,7 +56,10 @@ pub fn tried(heap: Global, request: Request) -> anyhow::Result<Trial> {
 
 impl Trial {
     /// Whether what was solved is the stripe that was encoded.
-    pub fn is_whole(&self) -> bool {
+    #[tactic(auto, using(crate::proofs::Trials::same_words))]
+    pub fn is_whole(&self) -> bool
+        ensures { Exactly result (self.now.encoded.items ≡ self.now.solved.items) }
+    {
         self.encoded == self.solved
     }
 }
