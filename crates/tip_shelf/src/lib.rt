@@ -1,0 +1,4 @@
+//! Shelves: what every store of columns means, and what its calls do.
+#![tactic(auto)]
+
+pub mod shelf;
