@@ -1,0 +1,3 @@
+mod Calling
+mod Serving
+mod Sizing

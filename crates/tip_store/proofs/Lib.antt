@@ -1,0 +1,4 @@
+pub mod Numbers
+pub mod Servicing
+pub mod Storing
+pub mod Sweeping

@@ -1,0 +1,4 @@
+pub mod Laws
+pub mod Layout
+pub mod Status
+pub mod Store

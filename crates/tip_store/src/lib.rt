@@ -1,0 +1,5 @@
+//! Strips that are kept by a status byte each: what the memory shelf and the image shelf have in common.
+#![tactic(auto)]
+
+pub mod layout;
+pub mod status;
