@@ -1,8 +1,8 @@
 // What is to be lost, read from the words of a command line.
-ghost use Rattle.std.specs.Prelude.{◌≡◌, IfOk, Some};
-ghost use Rattle.tip_code.specs.Geometry.{prime_of};
+ghost use Rattle.std.specs.Prelude.{◌≡◌, IfOk, Some, true, false};
+ghost use Rattle.tip_code.specs.Geometry.{prime_of, stripes_of};
 ghost use Rattle.tip_code.specs.Stops.{Stopped};
-ghost use Rattle.tip_lose.specs.Choosing.{ChoiceStop};
+ghost use Rattle.tip_lose.specs.Choosing.{Within, Many, ChoiceStop};
 
 use std::fmt;
 use thiserror::Error;
@@ -49,18 +49,35 @@ fn columns(words: &[String]) -> Result<Option<Columns>, Refusal> {
         })
 }
 
+/// Whether no column of the set is above p. A function of its own, so that an edit of the test is refused at its line.
+fn all_within(p: usize, lost: Columns) -> bool
+    ensures within { result ≡ true → Within p (Some lost) }
+    ensures above { result ≡ false → Within p (Some lost) → ⊥ }
+{
+    lost.within(p)
+}
+
+/// Whether so few columns are in the set that they can be solved.
+fn is_few(lost: Columns) -> bool
+    ensures few { result ≡ true → Many (Some lost) → ⊥ }
+    ensures many { result ≡ false → Many (Some lost) }
+{
+    lost.count() <= 3
+}
+
 /// The request for this prime and these columns; without columns one of them is too large for any set.
 /// Stop 1: p is not one of the ten primes. Stop 12: a column is above p. Stop 13: there are more than three.
+#[tactic(auto, using(crate::proofs::Refusals::choice_prime, crate::proofs::Refusals::choice_column))]
 pub fn chosen(p: usize, lost: Option<Columns>) -> Result<Request, Stop>
     ensures stop { Stopped (ChoiceStop p lost) result }
-    ensures value { IfOk result (λ q. (prime_of q.geometry ≡ p) × (lost ≡ Some q.lost)) }
+    ensures value { IfOk result (λ q. (prime_of q.geometry ≡ p) × (stripes_of q.geometry ≡ 1) × (lost ≡ Some q.lost)) }
 {
     let geometry = Geometry::new(p, 1)?;
     let lost = lost.ok_or(Stop::Column)?;
-    if !lost.within(p) {
+    if !all_within(p, lost) {
         return Err(Stop::Column);
     }
-    if lost.count() > 3 {
+    if !is_few(lost) {
         return Err(Stop::Lost);
     }
     Ok(Request { geometry, lost })
