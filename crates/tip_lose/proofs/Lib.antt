@@ -1,2 +1,3 @@
+mod Losing
 mod Refusals
 mod Trials
