@@ -1,3 +1,4 @@
+mod Asking
 mod Losing
 mod Refusals
 mod Trials

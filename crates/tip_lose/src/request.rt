@@ -1,7 +1,10 @@
 // What is to be lost, read from the words of a command line.
-ghost use Rattle.std.specs.Prelude.{◌≡◌, IfOk, Some, true, false};
+ghost use Rattle.std.specs.Prelude.{◌≡◌, ℕ, ◌+◌, ◌≤◌, ◌||◌, ◌==◌, IfOk, MatchOption, MatchResult, None, Some, true, false};
+ghost use Rattle.std.specs.List.{All};
 ghost use Rattle.tip_code.specs.Geometry.{prime_of, stripes_of};
 ghost use Rattle.tip_code.specs.Stops.{Stopped};
+ghost use Rattle.tip_columns.specs.Sets.{in_set};
+ghost use Rattle.tip_lose.specs.Asking.{Says, IsNumber, Gathered, FirstUnread, Chosen, Asked};
 ghost use Rattle.tip_lose.specs.Choosing.{Within, Many, ChoiceStop};
 
 use std::fmt;
@@ -25,7 +28,17 @@ pub enum Refusal {
     NoNumber(usize),
     /// The numbers are refused.
     #[error(transparent)]
-    Stopped(#[from] Stop),
+    Stopped(Stop),
+}
+
+impl From<Stop> for Refusal {
+    ghost use Rattle.tip_lose.specs.declared.request.Refusal.{Refusal};
+
+    ghost from_gives = { λ s r. r ≡ Refusal.Stopped s };
+
+    fn from(stop: Stop) -> Refusal {
+        Refusal::Stopped(stop)
+    }
 }
 
 /// The prime and the columns where no word is given.
@@ -34,19 +47,29 @@ const USUAL_PRIME: usize = 5;
 const USUAL_COLUMNS: Columns = Columns(0b101010);
 
 /// The number that a word says; `place` is where it stands.
-fn number(word: &str, place: usize) -> Result<usize, Refusal> {
-    word.parse().map_err(|_| Refusal::NoNumber(place))
+fn number(word: &str, place: usize) -> Result<usize, Refusal>
+    ensures { MatchResult result (λ n. Says word.now n) (λ r. (r ≡ Refusal.NoNumber place) × ((n : ℕ) → Says word.now n → ⊥)) }
+{
+    word.parse().map_err(move |_| Refusal::NoNumber(place))
+}
+
+/// The set with one column more, or nothing where this or an earlier one is too large for any set.
+fn with(all: Option<Columns>, column: usize) -> Option<Columns>
+    ensures { MatchOption all (result ≡ None) (λ s. MatchOption result (64 ≤ column) (λ t. (n : ℕ) → in_set t n ≡ (n == column || in_set s n))) }
+{
+    all?.with(column)
 }
 
 /// The columns that the words after the first say, or nothing where one is too large for any set.
-fn columns(words: &[String]) -> Result<Option<Columns>, Refusal> {
-    words
-        .iter()
-        .enumerate()
-        .try_fold(Some(Columns(0)), |all, (before, word)| {
-            let column = number(word.as_str(), before.saturating_add(2))?;
-            Ok(all.and_then(|some| some.with(column)))
-        })
+fn columns(words: &[String]) -> Result<Option<Columns>, Refusal>
+    ensures { MatchResult result (λ lost. All IsNumber words.now × Gathered words.now lost) (λ r. (k : ℕ) × FirstUnread words.now k × (r ≡ Refusal.NoNumber (k + 2))) }
+{
+    let mut all = Some(Columns(0));
+    for (before, word) in words.iter().enumerate() {
+        let column = number(word.as_str(), before + 2)?;
+        all = with(all, column);
+    }
+    Ok(all)
 }
 
 /// Whether no column of the set is above p. A function of its own, so that an edit of the test is refused at its line.
@@ -83,15 +106,25 @@ pub fn chosen(p: usize, lost: Option<Columns>) -> Result<Request, Stop>
     Ok(Request { geometry, lost })
 }
 
+/// The same, with the stop as a refusal.
+fn accepted(p: usize, lost: Option<Columns>) -> Result<Request, Refusal>
+    ensures { Chosen p lost result }
+{
+    Ok(chosen(p, lost)?)
+}
+
 /// The request that words make: the prime, then the lost columns. Without any word p is 5, and columns 1, 3 and 5 are lost.
 /// A word that is no number is refused before any stop.
-pub fn requested(words: &[String]) -> Result<Request, Refusal> {
+#[tactic(auto, using(crate::proofs::Asking::asked_usual, crate::proofs::Asking::asked_first, crate::proofs::Asking::asked_later, crate::proofs::Asking::asked_read))]
+pub fn requested(words: &[String]) -> Result<Request, Refusal>
+    ensures { Asked words.now result }
+{
     let [first, others @ ..] = words else {
-        return Ok(chosen(USUAL_PRIME, Some(USUAL_COLUMNS))?);
+        return accepted(USUAL_PRIME, Some(USUAL_COLUMNS));
     };
     let p = number(first.as_str(), 1)?;
     let lost = columns(others)?;
-    Ok(chosen(p, lost)?)
+    accepted(p, lost)
 }
 
 /// As "p = 5, lost columns 1 3 5".
