@@ -1,5 +1,5 @@
 -- What the calls of a memory shelf are, from what they leave in its buffers.
-use Rattle.std.proofs.Common.{◌≡◌, ◌≢◌, ℕ, ◌-◌, ◌*◌, ◌<◌, Bool, true, List, length, Ok, slice_index_or, slice_set, refl, sym, ap, subst, ◌∙◌, arith}
+use Rattle.std.proofs.Common.{◌≡◌, ◌≢◌, ℕ, ◌+◌, ◌-◌, ◌*◌, ◌<◌, ◌≤◌, Bool, true, List, length, Ok, slice_index_or, slice_set, refl, sym, ap, subst, ◌∙◌, arith}
 use Rattle.std.proofs.lemmas.Grind.{get_or-set_at}
 use Rattle.std.proofs.lemmas.Bool.Decides.{nat_tests}
 use Rattle.std.proofs.lemmas.List.{length-set, get_or-set_same, get_or-set_other, get_or_default}
@@ -8,15 +8,16 @@ use Rattle.tip_code.specs.Geometry.{prime_of, stripes_of}
 use Rattle.tip_shelf.specs.Calls.{Got, Put, Erased, Restored}
 use Rattle.tip_shelf.specs.declared.shelf.State.{State}
 use Rattle.tip_shelf.specs.declared.shelf.State.TheVariants.{Held, Blank, Absent}
-use Rattle.tip_store.specs.Layout.{strip_number, status_in, Spotted}
+use Rattle.tip_store.specs.Layout.{strips_in, strip_number, status_in, Spotted}
 use Rattle.tip_store.specs.declared.layout.Spot.{Spot}
 use Rattle.tip_store.specs.declared.status.Event.{Event}
 use Rattle.tip_store.specs.Status.{state_for, status_of, after, moved}
 use Rattle.tip_store.specs.Store.{Store}
 use Rattle.tip_store.specs.declared.status.Event.TheVariants.{Erase, Restore}
 use Rattle.tip_store.proofs.Storing.{store_got, store_put, store_erased, store_restored}
-use Rattle.tip_memory.specs.Memory.{memory, memory_of, store_of, fits_of, state_in, cell_at, CellAt}
-use Rattle.tip_memory.specs.Writing.{Pasted}
+use Rattle.tip_store.proofs.Numbers.{part_within}
+use Rattle.tip_memory.specs.Memory.{memory, memory_of, store_of, fits_of, state_in, cell_at, CellAt, cells_of}
+use Rattle.tip_store.specs.Pasting.{Pasted}
 use Rattle.tip_memory.specs.declared.MemoryShelf.{MemoryShelf}
 
 module _ {E : Type 0} (none : E) (s : MemoryShelf E) (i c : ℕ) where
@@ -55,6 +56,14 @@ module _ {E : Type 0} (none : E) (s : MemoryShelf E) (i c : ℕ) where
   module _ (spot : Spot) (at : Spotted p n 1 i c spot) (fit : fits ≡ true) where
     place : spot.status ≡ k * 1
     place = at.status ∙ ap (λ x. x * 1) at.number
+
+    -- its cells are among those of the buffer
+    pub strip_within : spot.number * (p - 1) + (p - 1) ≤ length s.cells.now
+    strip_within = let within : spot.number * (p - 1) + (p - 1) ≤ cells_of p n = part_within spot.number (p - 1) (strips_in p n) at.below in grind (arith, nat_tests, fit, within)
+
+    -- and begin at the cell of its first row
+    pub first_cell : spot.number * (p - 1) ≡ cell_at p k 0
+    first_cell = omega (arith, ap (λ m. m * (p - 1)) at.number)
 
     marked : (q : ℕ) → status_in 1 (slice_set s.statuses.now spot.status q) k ≡ q
     marked q = get_or-set_at s.statuses.now spot.status (k * 1) q 0 (sym place) (let within = at.within in grind (arith, nat_tests, fit, within))

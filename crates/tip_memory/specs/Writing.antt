@@ -1,17 +1,12 @@
 -- What the calls of a memory shelf leave in its buffers: s is the shelf before a call, and t after it.
-use Rattle.std.specs.Prelude.{◌≡◌, ℕ, ◌+◌, ◌<◌, ◌≤◌, true, false, List, length, Result, MatchResult, slice_index_or, slice_set}
+use Rattle.std.specs.Prelude.{◌≡◌, ℕ, ◌<◌, ◌≤◌, true, false, List, Result, MatchResult, slice_set}
 use Rattle.tip_code.specs.Geometry.{prime_of, stripes_of}
 use Rattle.tip_shelf.specs.declared.shelf.Out.{Out}
 use Rattle.tip_store.specs.Layout.{strip_number, Swept}
 use Rattle.tip_store.specs.declared.status.Event.{Event}
+use Rattle.tip_store.specs.Pasting.{Pasted}
 use Rattle.tip_memory.specs.Memory.{cell_at, fits_of}
 use Rattle.tip_memory.specs.declared.MemoryShelf.{MemoryShelf}
-
--- ys is xs with the elements es written over it from index a on, and no other.
-pub record Pasted {E : Type 0} (none : E) (a : ℕ) (es xs ys : List E) : Type 0 where
-  pub size : length ys ≡ length xs
-  pub there : (r : ℕ) → r < length es → slice_index_or ys (a + r) none ≡ slice_index_or es r none
-  pub elsewhere : (k : ℕ) → ((r : ℕ) → r < length es → k ≡ a + r → ⊥) → slice_index_or ys k none ≡ slice_index_or xs k none
 
 module _ {E : Type 0} (s t : MemoryShelf E) where
   -- Nothing is written.

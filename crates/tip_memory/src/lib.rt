@@ -7,7 +7,7 @@ ghost use Rattle.tip_shelf.specs.Service.{Pulled, Fitted};
 ghost use Rattle.tip_code.specs.Geometry.{prime_of};
 ghost use Rattle.tip_store.specs.declared.status.Event.TheVariants.{Pull, Fit};
 ghost use Rattle.tip_memory.specs.Memory.{memory_of, loans, fits_of};
-ghost use Rattle.tip_memory.specs.Writing.{Pasted, Untouched, Puts, Erases, Restores, Serves};
+ghost use Rattle.tip_memory.specs.Writing.{Untouched, Puts, Erases, Restores, Serves};
 ghost use Rattle.tip_memory.specs.Laws.{memory_sound, memory_devices};
 
 use tip_code::geometry::Geometry;
@@ -15,6 +15,7 @@ use tip_code::stop::Stop;
 use tip_element::element::Element;
 use tip_shelf::shelf::{Out, Serviced, Shelf, State};
 use tip_store::layout::{Layout, Spot};
+use tip_store::paste::paste;
 use tip_store::status::{Event, advance, state_at};
 
 /// A steady shelf in two lent buffers: an element for each cell, stripe by stripe, each as a stripe buffer; and in the same order a
@@ -106,7 +107,6 @@ impl<'a, E: Element> Shelf for MemoryShelf<'a, E> {
         Ok(self.cells[index])
     }
 
-    #[tactic(auto, using(crate::proofs::Calling::memory_put))]
     fn put(&mut self, stripe: usize, column: usize, row: usize, element: E) -> Result<(), Out>
         ensures act { Put (memory_of E.zero self.old) (memory_of E.zero self.new) stripe column row element result }
         ensures lent { loans self.new ≡ loans self.old }
@@ -119,7 +119,6 @@ impl<'a, E: Element> Shelf for MemoryShelf<'a, E> {
         Ok(())
     }
 
-    #[tactic(auto, using(crate::proofs::Calling::memory_erased))]
     fn erase(&mut self, stripe: usize, column: usize) -> Result<(), Out>
         ensures act { Erased (memory_of E.zero self.old) (memory_of E.zero self.new) stripe column result }
         ensures lent { loans self.new ≡ loans self.old }
@@ -135,7 +134,6 @@ impl<'a, E: Element> Shelf for MemoryShelf<'a, E> {
         Ok(())
     }
 
-    #[tactic(auto, using(crate::proofs::Calling::memory_restored))]
     fn restore(&mut self, stripe: usize, column: usize, elements: &[E]) -> Result<(), Out>
         ensures act { Restored (memory_of E.zero self.old) (memory_of E.zero self.new) stripe column elements.now result }
         ensures lent { loans self.new ≡ loans self.old }
@@ -181,14 +179,6 @@ impl<'a, E: Element> Serviced for MemoryShelf<'a, E> {
     }
 
     ghost devices = { memory_devices E.zero };
-}
-
-/// Writes elements over others, from an index on.
-fn paste<E: Element>(cells: &mut [E], start: usize, elements: &[E])
-    requires { start + length elements.now ≤ length cells.old }
-    ensures { Pasted E.zero start elements.now cells.old cells.new }
-{
-    cells[start..start + elements.len()].copy_from_slice(elements);
 }
 
 impl<E: Element> MemoryShelf<'_, E> {

@@ -85,7 +85,7 @@ pub record InRange {E : Type 0} (v : Meaning E) (i c r : ℕ) : Type 0 where
 -- The shelf has a strip at stripe i and column c, and the elements are as many as it has rows.
 pub record Loads {E : Type 0} (v : Meaning E) (i c : ℕ) (es : List E) : Type 0 where
   pub within : Within v i c
-  pub length : length es ≡ v.prime - 1
+  pub sized : length es ≡ v.prime - 1
 
 -- What is got from a held strip is its element at row r.
 abbrev pub Reads : {E : Type 0} → Strip E → ℕ → Result E Out → Type 0

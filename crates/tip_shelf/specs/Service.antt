@@ -6,7 +6,7 @@ use Rattle.tip_shelf.specs.Calls.{Kept, Same, Fares}
 -- Device d was pulled: every strip on it is absent. A device beyond p changes nothing.
 pub record Pulled {E : Type 0} (v w : Meaning E) (d : ℕ) : Type 0 where
   pub kept : Kept v w
-  pub gone : d ≤ v.prime → (i c : ℕ) → Within v i c → v.device i c ≡ d → w.strip i c ≡ absent
+  pub gone : d ≤ v.prime → (i c : ℕ) → v.device i c ≡ d → w.strip i c ≡ absent
   pub others : (i c : ℕ) → v.device i c ≢ d → Fares v.steady (v.strip i c) (w.strip i c)
   pub beyond : v.prime < d → Same v w
 

@@ -2,3 +2,4 @@ pub mod Numbers
 pub mod Servicing
 pub mod Storing
 pub mod Sweeping
+pub mod Sweeps

@@ -48,10 +48,14 @@ module _ {E : Type 0} (p n d : ℕ) (s t : Store E) where
     cell = λ r v. h.cells (strip_number p i c) r (number_below p n i c l m) v;
   })
 
+  -- it is absent after a pull, also beyond the last stripe
+  pulled : Befallen p n d Pull s t → (i : ℕ) → d ≤ p → (shelf_of p n true t).strip i d ≡ absent
+  pulled h i k = let within : i < n → (shelf_of p n true t).strip i d ≡ absent = λ l. becomes Pull h i l k in grind (arith, nat_tests, within)
+
   pub store_pulled : d ≤ p → Befallen p n d Pull s t → Pulled (shelf_of p n true s) (shelf_of p n true t) d
   store_pulled k h = record {
     kept = kept true;
-    gone = λ _ i c within same. subst (λ x. (shelf_of p n true t).strip i x ≡ absent) (sym same) (becomes Pull h i within.stripe k);
+    gone = λ _ i c same. subst (λ x. (shelf_of p n true t).strip i x ≡ absent) (sym same) (pulled h i k);
     others = λ i c apart. stays (elsewhere Pull h k i c apart);
     beyond = λ less. absurd (omega arith);
   }
@@ -70,7 +74,7 @@ module _ {E : Type 0} (p n d : ℕ) (b : Bool) (s : Store E) (none : b ≡ true 
   pub unpulled : Pulled (shelf_of p n b s) (shelf_of p n b s) d
   unpulled = record {
     kept = (same_refl (shelf_of p n b s)).kept;
-    gone = λ k i c within same. grind (arith, nat_tests, none);
+    gone = λ k i c same. grind (arith, nat_tests, none);
     others = λ i c apart. stays refl;
     beyond = λ less. same_refl (shelf_of p n b s);
   }
@@ -84,10 +88,17 @@ module _ {E : Type 0} (p n d : ℕ) (b : Bool) (s : Store E) (none : b ≡ true 
     beyond = λ less. (refl, same_refl (shelf_of p n b s));
   }
 
--- a sweep over status bytes that stand w apart is such an event
-pub swept_befalls : {E : Type 0} (p n w d : ℕ) (e : Event) (xs ys : List ℕ) (f g : ℕ → ℕ → E) → 1 ≤ w → d ≤ p → length xs ≡ strips_in p n * w → Swept p n w d e xs ys → ((k r : ℕ) → k < strips_in p n → r < p - 1 → g k r ≡ f k r) → Befallen p n d e (record { status = status_in w xs; cell = f }) (record { status = status_in w ys; cell = g })
-swept_befalls p n w d e xs ys f g low h size swept cells = record {
-  there = λ i l. swept.there i l (let in_part : strip_number p i d * w + w ≤ strips_in p n * w = part_within (strip_number p i d) w (strips_in p n) (number_below p n i d l h) in omega arith);
-  elsewhere = λ k l apart. swept.elsewhere (k * w) (λ i m same. apart i m (part_one k (strip_number p i d) w low same));
-  cells = cells;
-}
+-- a sweep over the status bytes xs, which stand w apart, is such an event; f and g are the cells before and after it
+module _ {E : Type 0} (p n w d : ℕ) (e : Event) (f g : ℕ → ℕ → E) (xs ys : List ℕ) where
+  abbrev before : Store E
+  before = record { status = status_in w xs; cell = f }
+
+  abbrev later : Store E
+  later = record { status = status_in w ys; cell = g }
+
+  pub swept_befalls : 1 ≤ w → d ≤ p → length xs ≡ strips_in p n * w → Swept p n w d e xs ys → ((k r : ℕ) → k < strips_in p n → r < p - 1 → g k r ≡ f k r) → Befallen p n d e before later
+  swept_befalls low h size swept cells = record {
+    there = λ i l. swept.there i l (let in_part : strip_number p i d * w + w ≤ strips_in p n * w = part_within (strip_number p i d) w (strips_in p n) (number_below p n i d l h) in omega arith);
+    elsewhere = λ k l apart. swept.elsewhere (k * w) (λ i m same. apart i m (part_one k (strip_number p i d) w low same));
+    cells = cells;
+  }

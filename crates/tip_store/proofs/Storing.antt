@@ -93,7 +93,7 @@ module _ {E : Type 0} (p n : ℕ) (b : Bool) (i c k : ℕ) (fits : b ≡ true) (
       wiped Absent ne = absurd (ne refl)
 
   pub store_restored : {A : Type 0} (s t : Store E) (a : A) (es : List E) (d : E) → length es ≡ p - 1 → state_for (s.status k) ≡ Blank → t.status k ≡ 2 → ((r : ℕ) → r < p - 1 → t.cell k r ≡ slice_index_or es r d) → Elsewhere s t → Restored (shelf_of p n b s) (shelf_of p n b t) i c es (Ok a)
-  store_restored s t a es d len is status cells others = store_done s t a (restored es) (record { within = there s; length = len }) (rw (is, status, elements_are p t k es d len (λ r m. sym (cells r m))) refl) others
+  store_restored s t a es d len is status cells others = store_done s t a (restored es) (record { within = there s; sized = len }) (rw (is, status, elements_are p t k es d len (λ r m. sym (cells r m))) refl) others
 
 -- a call that says out over a store, and changes nothing
 module _ {E : Type 0} (p n : ℕ) (b : Bool) (i c : ℕ) (s : Store E) where

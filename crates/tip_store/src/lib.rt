@@ -2,4 +2,5 @@
 #![tactic(auto)]
 
 pub mod layout;
+pub mod paste;
 pub mod status;

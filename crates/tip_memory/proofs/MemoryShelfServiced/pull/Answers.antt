@@ -4,4 +4,4 @@ use Rattle.tip_memory.proofs.Serving.{memory_pulled}
 use Rattle.tip_memory.proofs.MemoryShelfServiced.pull.Goals as goal
 
 pub returns-then-serves-clause-act : goal.returns-then-serves-clause-act
-returns-then-serves-clause-act g c = memory_pulled g.E.Element.zero c.args.self.now c.args.device _ (grind (arith, nat_tests)) c.layout.result c.layout.ensures.0 c.layout.ensures.1 (search (rules, nat_tests))
+returns-then-serves-clause-act g c = memory_pulled g.E.Element.zero c.args.self.now c.args.device _ c.layout.result (grind (arith, nat_tests)) c.layout.ensures.0 c.layout.ensures.1 (search (rules, nat_tests))

@@ -1,0 +1,4 @@
+pub mod Acts
+pub mod Pulling
+pub mod Stopping
+pub mod Unsteady

@@ -1,0 +1,4 @@
+mod Calling
+mod Serving
+mod Sizing
+mod Wording
