@@ -1,0 +1,2 @@
+pub mod Guarding
+pub mod Laws
