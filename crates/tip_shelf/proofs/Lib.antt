@@ -1,1 +1,2 @@
+pub mod Faring
 pub mod Strips

@@ -1,5 +1,5 @@
 -- What the calls of a shelf do to its meaning: v is the meaning before a call, and w after it.
-use Rattle.std.specs.Prelude.{◌≡◌, ℕ, ◌-◌, ◌<◌, Bool, false, List, length, Option, Some, None, Result, Ok, Err, IsErr, slice_get, slice_set}
+use Rattle.std.specs.Prelude.{◌≡◌, ℕ, ◌-◌, ◌<◌, Bool, true, false, List, length, Option, Some, None, Result, Ok, Err, IsErr, slice_get, slice_set}
 use Rattle.tip_code.specs.declared.geometry.Geometry.{Geometry}
 use Rattle.tip_code.specs.Geometry.{prime_of, stripes_of}
 use Rattle.tip_shelf.specs.Meaning.{Strip, held, blank, absent, Meaning, Within}
@@ -29,6 +29,17 @@ pub record Same {E : Type 0} (v w : Meaning E) : Type 0 where
 pub data Fares {E : Type 0} (steady : Bool) (before after : Strip E) : Type 0 where
   stays : after ≡ before → Fares steady before after
   drops : steady ≡ false → after ≡ absent → Fares steady before after
+
+-- The shelf is only read: its sizes, devices and steadiness stay, and each strip stays or drops.
+pub record Fared {E : Type 0} (v w : Meaning E) : Type 0 where
+  pub kept : Kept v w
+  pub strips : (i c : ℕ) → Fares v.steady (v.strip i c) (w.strip i c)
+
+-- Whether a strip is out: it is blank or absent, and has no elements.
+abbrev pub is_out : {E : Type 0} → Strip E → Bool
+is_out (held es) = false
+is_out blank = true
+is_out absent = true
 
 -- Which of the three a strip is.
 abbrev pub state_of : {E : Type 0} → Strip E → State

@@ -1,0 +1,11 @@
+use Rattle.std.proofs.Common.{◌≡◌}
+use Rattle.tip_gather.specs.Gathering.{StripRead}
+use Rattle.tip_gather.proofs.gather.read_strip.Given as goal
+
+abbrev pub invariant-loop-row : goal.invariant-loop-row
+invariant-loop-row g l =
+    let m = g.S.Shelf in
+    record {
+      read : StripRead g.S.Element.Element.zero (m.meaning l.fn.shelf) (m.meaning l.shelf) l.stripe l.column l.row l.fn.cells l.cells;
+      lent : m.lent l.shelf ≡ m.lent l.fn.shelf;
+    }

@@ -1,0 +1,114 @@
+// Gathering: the held strips of a stripe, read into one buffer.
+ghost use Rattle.std.specs.Prelude.{◌≡◌, ℕ, ◌+◌, ◌-◌, ◌*◌, ◌<◌, ◌≤◌, ◌||◌, true, length, slice_set, MatchResult, ◌==◌};
+ghost use Rattle.tip_code.specs.Geometry.{cells_in};
+ghost use Rattle.tip_code.specs.Stops.{Stopped};
+ghost use Rattle.tip_columns.specs.Sets.{in_set};
+ghost use Rattle.tip_shelf.specs.Meaning.{Within};
+ghost use Rattle.tip_shelf.specs.Calls.{Same, is_out};
+ghost use Rattle.tip_gather.specs.Gathering.{GatherStop, StripRead, StripsRead, OutSet, Gathered};
+
+use super::sizes::{columns_of, rows_of};
+use tip_code::stop::Stop;
+use tip_columns::Columns;
+use tip_element::element::Element;
+use tip_shelf::shelf::{Shelf, State};
+
+/// Whether a strip is out.
+fn is_out<S: Shelf>(shelf: &mut S, stripe: usize, column: usize) -> bool
+    ensures same { Same (S.meaning shelf.old) (S.meaning shelf.new) }
+    ensures out { result ≡ is_out ((S.meaning shelf.old).strip stripe column) }
+    ensures lent { S.lent shelf.new ≡ S.lent shelf.old }
+{
+    shelf.state(stripe, column) != State::Held
+}
+
+/// Sets the cell of a column and row, in a stripe buffer of so many rows. A function of its own, so that an edit of the place is refused
+/// at its line.
+fn set_cell<E: Element>(cells: &mut [E], rows: usize, column: usize, row: usize, element: E)
+    requires { column * rows + row < length cells.old }
+    ensures { cells.new ≡ slice_set cells.old (column * rows + row) element }
+{
+    cells[column * rows + row] = element;
+}
+
+/// Copies a strip into its column of the stripe buffer, row by row, as long as it is held.
+#[tactic(auto, using(crate::proofs::Reading::rows_none))]
+fn read_strip<S: Shelf>(shelf: &mut S, stripe: usize, column: usize, cells: &mut [S::Element])
+    requires there { Within (S.meaning shelf.old) stripe column }
+    requires sized { length cells.old ≡ cells_in (S.meaning shelf.old).prime }
+    ensures read { StripRead S.Element.zero (S.meaning shelf.old) (S.meaning shelf.new) stripe column ((S.meaning shelf.old).prime - 1) cells.old cells.new }
+    ensures lent { S.lent shelf.new ≡ S.lent shelf.old }
+{
+    let rows = rows_of(shelf);
+    for row in 0..rows {
+        let Ok(element) = shelf.get(stripe, column, row) else {
+            return;
+        };
+        set_cell(cells, rows, column, row, element);
+    }
+}
+
+/// Copies each held strip of a stripe into the stripe buffer. One that was copied may be out afterwards.
+#[tactic(auto, using(crate::proofs::Reading::columns_none, crate::proofs::Reading::columns_more, crate::proofs::Reading::columns_skip))]
+fn read_held<S: Shelf>(shelf: &mut S, stripe: usize, cells: &mut [S::Element])
+    requires there { stripe < (S.meaning shelf.old).stripes }
+    requires sized { length cells.old ≡ cells_in (S.meaning shelf.old).prime }
+    ensures read { StripsRead S.Element.zero (S.meaning shelf.old) (S.meaning shelf.new) stripe ((S.meaning shelf.old).prime + 1) cells.new }
+    ensures lent { S.lent shelf.new ≡ S.lent shelf.old }
+{
+    for column in 0..columns_of(shelf) {
+        if !is_out(shelf, stripe, column) {
+            read_strip(shelf, stripe, column, cells);
+        }
+    }
+}
+
+/// The set with one column more, which has a bit since p is at most 31.
+fn added(set: Columns, column: usize) -> Columns
+    requires { column < 64 }
+    ensures { (c : ℕ) → in_set result c ≡ (c == column || in_set set c) }
+{
+    set.with(column).unwrap_or(set)
+}
+
+/// The columns of a stripe whose strips are out.
+#[tactic(auto, using(crate::proofs::Reading::set_none))]
+fn columns_out<S: Shelf>(shelf: &mut S, stripe: usize) -> Columns
+    ensures out { OutSet (S.meaning shelf.old) (S.meaning shelf.new) stripe ((S.meaning shelf.old).prime + 1) result }
+    ensures lent { S.lent shelf.new ≡ S.lent shelf.old }
+{
+    let mut out = Columns(0);
+    for column in 0..columns_of(shelf) {
+        if is_out(shelf, stripe, column) {
+            out = added(out, column);
+        }
+    }
+    out
+}
+
+/// Reads the held strips of a stripe into a stripe buffer of (p - 1)(p + 1) elements, and gives the columns that are out at the end: a
+/// strip may drop while others are read, also one that was read already. Every strip that is held at the end was read whole; the cells
+/// of the other columns may hold anything. A steady shelf is unchanged.
+/// Stop 3: the buffer has another length. Stop 10: the stripe is not below the number of stripes. At a stop nothing changes.
+#[tactic(auto, using(crate::proofs::Stopping::no_stop, crate::proofs::Reading::all_gathered, tip_shelf::proofs::Faring::fared_steady))]
+pub fn gather<S: Shelf>(
+    shelf: &mut S,
+    stripe: usize,
+    cells: &mut [S::Element],
+) -> Result<Columns, Stop>
+    ensures stop { Stopped (GatherStop (S.meaning shelf.old) (length cells.old) stripe) result }
+    ensures steady { (S.meaning shelf.old).steady ≡ true → Same (S.meaning shelf.old) (S.meaning shelf.new) }
+    ensures gathered { MatchResult result (λ out. Gathered S.Element.zero (S.meaning shelf.old) (S.meaning shelf.new) stripe out cells.new) (λ _. (shelf.new ≡ shelf.old) × (cells.new ≡ cells.old)) }
+    ensures lent { S.lent shelf.new ≡ S.lent shelf.old }
+{
+    let geometry = shelf.geometry();
+    if cells.len() != geometry.cells() {
+        return Err(Stop::Length);
+    }
+    if stripe >= geometry.stripes() {
+        return Err(Stop::Stripe);
+    }
+    read_held(shelf, stripe, cells);
+    // What is out is asked last, since reading may have lost strips.
+    Ok(columns_out(shelf, stripe))
+}

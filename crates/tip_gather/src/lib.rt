@@ -1,0 +1,5 @@
+//! What the layers above need of any shelf: a stripe gathered into a buffer.
+#![tactic(auto)]
+
+pub mod gather;
+mod sizes;
