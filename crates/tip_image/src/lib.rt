@@ -44,7 +44,7 @@ impl<'a> ImageShelf<'a> {
 
     /// The shelf over an image that fits: 8(p - 1) + 1 bytes for each strip. It stays as it is.
     /// Stop 3: the image has another length.
-    #[tactic(auto, using(crate::proofs::Sizing::length_stop))]
+    #[tactic(auto, using(crate::proofs::Sizing::length_stop, crate::proofs::Sizing::no_stop))]
     pub fn new(geometry: &'a Geometry, bytes: &'a mut [u8]) -> Result<ImageShelf<'a>, Stop>
         ensures stop { Stopped (LengthStop (prime_of geometry.now) (stripes_of geometry.now) (length bytes.old)) result }
         ensures value { IfOk result (Over geometry.now bytes.entry) }
@@ -148,9 +148,7 @@ impl Serviced for ImageShelf<'_> {
         ensures lent { loans self.new ≡ loans self.old }
         ensures own { Serves self.old self.new device Pull }
     {
-        if self.serves(device) {
-            self.layout().sweep(device, Event::Pull, self.bytes);
-        }
+        self.sweep(device, Event::Pull);
     }
 
     fn fit(&mut self, device: usize) -> bool
@@ -159,11 +157,7 @@ impl Serviced for ImageShelf<'_> {
         ensures own { Serves self.old self.new device Fit }
         ensures answer { result ≡ (fits_of self.old && nat_le device (prime_of self.old.geometry.now)) }
     {
-        if !self.serves(device) {
-            return false;
-        }
-        self.layout().sweep(device, Event::Fit, self.bytes);
-        true
+        self.sweep(device, Event::Fit)
     }
 
     ghost devices = { image_devices };
@@ -172,7 +166,8 @@ impl Serviced for ImageShelf<'_> {
 impl ImageShelf<'_> {
     ghost use Rattle.std.specs.Prelude.{◌≡◌, ◌+◌, ◌-◌, ◌<◌, ◌&&◌, nat_le, true, length, MatchOption, slice_index_or};
     ghost use Rattle.tip_code.specs.Geometry.{prime_of, stripes_of};
-    ghost use Rattle.tip_image.specs.Image.{width, fits_of, word_from, WordAt, NoWord};
+    ghost use Rattle.tip_image.specs.Image.{width, fits_of, loans, word_from, WordAt, NoWord};
+    ghost use Rattle.tip_image.specs.Writing.{Serves};
     ghost use Rattle.tip_store.specs.Layout.{HasStrip, Spotted};
     ghost use Rattle.tip_store.specs.Status.{state_for};
 
@@ -202,6 +197,20 @@ impl ImageShelf<'_> {
         ensures { result ≡ (fits_of self.now && nat_le device (prime_of self.now.geometry.now)) }
     {
         self.fits() && device <= self.geometry.prime().number
+    }
+
+    /// Changes the status bytes of the strips on the device by an event, and says whether there are any.
+    fn sweep(&mut self, device: usize, event: Event) -> bool
+        ensures swept { Serves self.old self.new device event }
+        ensures geometry { self.new.geometry.now ≡ self.old.geometry.now }
+        ensures lent { loans self.new ≡ loans self.old }
+        ensures answer { result ≡ (fits_of self.old && nat_le device (prime_of self.old.geometry.now)) }
+    {
+        if !self.serves(device) {
+            return false;
+        }
+        self.layout().sweep(device, event, self.bytes);
+        true
     }
 
     /// Where a strip stands, or nothing where there is none.

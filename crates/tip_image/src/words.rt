@@ -25,13 +25,20 @@ pub(crate) fn read_word(bytes: &[u8], at: usize) -> Word
     ]))
 }
 
+/// The bytes of a word, the highest first.
+fn bytes_of(word: Word) -> [u8; 8]
+    ensures { result ≡ bytes_of word }
+{
+    word.0.to_be_bytes()
+}
+
 /// Writes the word that begins at this index. That a word is below 2^64 is told for `write_words`.
 pub(crate) fn write_word(bytes: &mut [u8], at: usize, word: Word)
     requires { at + 7 < length bytes.old }
     ensures written { Pasted 0 at (bytes_of word) bytes.old bytes.new }
     ensures small { word.0 < 2 ^ 64 }
 {
-    paste(bytes, at, &word.0.to_be_bytes());
+    paste(bytes, at, &bytes_of(word));
 }
 
 /// Writes words from an index on, one after another. Of a slice of words nothing says that each is below 2^64 but that it was read.

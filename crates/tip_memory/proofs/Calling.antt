@@ -1,22 +1,21 @@
 -- What the calls of a memory shelf are, from what they leave in its buffers.
-use Rattle.std.proofs.Common.{◌≡◌, ◌≢◌, ℕ, ◌+◌, ◌-◌, ◌*◌, ◌<◌, ◌≤◌, Bool, true, List, length, Ok, slice_index_or, slice_set, refl, sym, ap, subst, ◌∙◌, arith}
-use Rattle.std.proofs.lemmas.Grind.{get_or-set_at}
+use Rattle.std.proofs.Common.{◌≡◌, ℕ, ◌+◌, ◌-◌, ◌*◌, ◌<◌, ◌≤◌, Bool, true, List, length, Ok, slice_index_or, slice_set, refl, sym, ap, subst, ◌∙◌, arith}
 use Rattle.std.proofs.lemmas.Bool.Decides.{nat_tests}
 use Rattle.std.proofs.lemmas.List.{length-set, get_or-set_same, get_or-set_other, get_or_default}
 use Rattle.std.proofs.lemmas.Nat.{same_from_place}
 use Rattle.tip_code.specs.Geometry.{prime_of, stripes_of}
 use Rattle.tip_shelf.specs.Calls.{Got, Put, Erased, Restored}
-use Rattle.tip_shelf.specs.declared.shelf.State.{State}
-use Rattle.tip_shelf.specs.declared.shelf.State.TheVariants.{Held, Blank, Absent}
-use Rattle.tip_store.specs.Layout.{strips_in, strip_number, status_in, Spotted}
+use Rattle.tip_shelf.specs.declared.shelf.State.TheVariants.{Blank, Absent}
+use Rattle.tip_store.specs.Layout.{strips_in, strip_number, Spotted}
 use Rattle.tip_store.specs.declared.layout.Spot.{Spot}
 use Rattle.tip_store.specs.declared.status.Event.{Event}
-use Rattle.tip_store.specs.Status.{state_for, status_of, after, moved}
+use Rattle.tip_store.specs.Status.{state_for, moved}
 use Rattle.tip_store.specs.Store.{Store}
 use Rattle.tip_store.specs.declared.status.Event.TheVariants.{Erase, Restore}
-use Rattle.tip_store.proofs.Storing.{store_got, store_put, store_erased, store_restored}
+use Rattle.tip_store.proofs.Storing.{store_got, store_put}
+use Rattle.tip_store.proofs.Marking.{marked, event_erased, event_restored}
 use Rattle.tip_store.proofs.Numbers.{part_within}
-use Rattle.tip_memory.specs.Memory.{memory, memory_of, store_of, fits_of, state_in, cell_at, CellAt, cells_of}
+use Rattle.tip_memory.specs.Memory.{memory, memory_of, store_of, fits_of, cell_at, CellAt, cells_of}
 use Rattle.tip_store.specs.Pasting.{Pasted}
 use Rattle.tip_memory.specs.declared.MemoryShelf.{MemoryShelf}
 
@@ -46,16 +45,16 @@ module _ {E : Type 0} (none : E) (s : MemoryShelf E) (i c : ℕ) where
       let same : store.cell k r ≡ slice_index_or s.cells.now j d = ap (λ x. slice_index_or s.cells.now x none) (sym h.index) ∙ get_or_default s.cells.now j none d h.within in
       subst (λ x. Got (memory_of none s) (memory_of none s) i c r (Ok x)) same (store_got p n fits i c k h.fits h.has.0 h.has.1 refl store r h.row h.held)
 
-  pub memory_put : {A : Type 0} (a : A) (r j : ℕ) (e : E) → CellAt s i c r j → Put (memory_of none s) (memory none s.geometry.now (slice_set s.cells.now j e) s.statuses.now) i c r e (Ok a)
-  memory_put a r j e h = rw (length-set s.cells.now j e) (store_put p n fits i c k h.fits h.has.0 h.has.1 refl store (store_of none p (slice_set s.cells.now j e) s.statuses.now) a r e h.row h.held refl
+  pub memory_put : {A : Type 0} (a : A) (r j : ℕ) (e : E) (xs : List E) → CellAt s i c r j → xs ≡ slice_set s.cells.now j e → Put (memory_of none s) (memory none s.geometry.now xs s.statuses.now) i c r e (Ok a)
+  memory_put a r j e xs h set = rw (set, length-set s.cells.now j e) (store_put p n fits i c k h.fits h.has.0 h.has.1 refl store (store_of none p (slice_set s.cells.now j e) s.statuses.now) a r e h.row h.held refl
       (rw (h.index) (get_or-set_same s.cells.now (cell_at p k r) e none (omega (arith, h.index, h.within))))
       (λ q l apart. get_or-set_other s.cells.now j (cell_at p k q) e none (λ same. let one = cell_one k q r l h.row (same ∙ h.index) in apart one.1))
       (λ m l apart. record { status = refl; cell = λ q u. get_or-set_other s.cells.now j (cell_at p m q) e none (λ same. let one = cell_one m q r u h.row (same ∙ h.index) in apart one.0) }))
 
-  -- what a change of the status byte of this strip, at index m, leaves of the status bytes
+  -- the strip at a spot of the status bytes
   module _ (spot : Spot) (at : Spotted p n 1 i c spot) (fit : fits ≡ true) where
-    place : spot.status ≡ k * 1
-    place = at.status ∙ ap (λ x. x * 1) at.number
+    size : length s.statuses.now ≡ strips_in p n * 1
+    size = grind (arith, nat_tests, fit)
 
     -- its cells are among those of the buffer
     pub strip_within : spot.number * (p - 1) + (p - 1) ≤ length s.cells.now
@@ -65,31 +64,15 @@ module _ {E : Type 0} (none : E) (s : MemoryShelf E) (i c : ℕ) where
     pub first_cell : spot.number * (p - 1) ≡ cell_at p k 0
     first_cell = omega (arith, ap (λ m. m * (p - 1)) at.number)
 
-    marked : (q : ℕ) → status_in 1 (slice_set s.statuses.now spot.status q) k ≡ q
-    marked q = get_or-set_at s.statuses.now spot.status (k * 1) q 0 (sym place) (let within = at.within in grind (arith, nat_tests, fit, within))
-
-    unmarked : (q m : ℕ) → m ≢ k → status_in 1 (slice_set s.statuses.now spot.status q) m ≡ status_in 1 s.statuses.now m
-    unmarked q m apart = get_or-set_other s.statuses.now spot.status (m * 1) q 0 (λ same. apart (omega (arith, same, place)))
-
-    state_here : state_in s k ≡ state_for (slice_index_or s.statuses.now spot.status 0)
-    state_here = ap (λ m. state_for (slice_index_or s.statuses.now m 0)) (sym place)
-
     -- the status bytes after an event
     abbrev pub after_event : Event → List ℕ
-    after_event e = slice_set s.statuses.now spot.status (moved e (slice_index_or s.statuses.now spot.status 0))
+    after_event e = marked p n 1 i c s.statuses.now spot at e
 
     pub memory_erased : {A : Type 0} (a : A) (ys : List ℕ) → (state_for (slice_index_or s.statuses.now spot.status 0) ≡ Absent → ⊥) → ys ≡ after_event Erase → Erased (memory_of none s) (memory none s.geometry.now s.cells.now ys) i c (Ok a)
-    memory_erased a ys is e = rw (e, length-set s.statuses.now spot.status (moved Erase (slice_index_or s.statuses.now spot.status 0))) (store_erased p n fits i c k fit at.has.0 at.has.1 refl store (store_of none p s.cells.now (after_event Erase)) a (λ gone. is (sym state_here ∙ gone))
-        (marked (moved Erase (slice_index_or s.statuses.now spot.status 0)) ∙ blanked (state_for (slice_index_or s.statuses.now spot.status 0)) is)
-        (λ m less apart. record { status = unmarked (moved Erase (slice_index_or s.statuses.now spot.status 0)) m apart; cell = λ q u. refl }))
-      where
-        blanked : (q : State) → (q ≡ Absent → ⊥) → status_of (after q Erase) ≡ 1
-        blanked Held ne = refl
-        blanked Blank ne = refl
-        blanked Absent ne = absurd (ne refl)
+    memory_erased a ys is e = rw (e, length-set s.statuses.now spot.status (moved Erase (slice_index_or s.statuses.now spot.status 0))) (event_erased p n 1 i c s.statuses.now spot at fits store.cell store.cell fit (omega arith) size (λ m r apart l. refl) a is)
 
     pub memory_restored : {A : Type 0} (a : A) (es xs : List E) (ys : List ℕ) → length es ≡ p - 1 → state_for (slice_index_or s.statuses.now spot.status 0) ≡ Blank → Pasted none (spot.number * (p - 1)) es s.cells.now xs → ys ≡ after_event Restore → Restored (memory_of none s) (memory none s.geometry.now xs ys) i c es (Ok a)
-    memory_restored a es xs ys len is paste e = rw (e, length-set s.statuses.now spot.status (moved Restore (slice_index_or s.statuses.now spot.status 0)), paste.size) (store_restored p n fits i c k fit at.has.0 at.has.1 refl store (store_of none p xs (after_event Restore)) a es none len (state_here ∙ is)
-        (marked (moved Restore (slice_index_or s.statuses.now spot.status 0)) ∙ ap (λ q. status_of (after q Restore)) is)
-        (λ r m. ap (λ x. slice_index_or xs (cell_at p x r) none) (sym at.number) ∙ paste.there r (omega (arith, m, len)))
-        (λ m less apart. record { status = unmarked (moved Restore (slice_index_or s.statuses.now spot.status 0)) m apart; cell = λ q u. paste.elsewhere (cell_at p m q) (λ r v same. let one = cell_one m q r u (omega (arith, v, len)) (same ∙ ap (λ x. cell_at p x r) at.number) in apart one.0) }))
+    memory_restored a es xs ys len is paste e = rw (e, length-set s.statuses.now spot.status (moved Restore (slice_index_or s.statuses.now spot.status 0)), paste.size) (event_restored p n 1 i c s.statuses.now spot at fits store.cell (store_of none p xs s.statuses.now).cell fit (omega arith) size
+        (λ m q apart u. paste.elsewhere (cell_at p m q) (λ r v same. let one = cell_one m q r u (omega (arith, v, len)) (same ∙ ap (λ x. cell_at p x r) at.number) in apart one.0))
+        a (after_event Restore) es none len is (λ m. refl)
+        (λ r m. ap (λ x. slice_index_or xs (cell_at p x r) none) (sym at.number) ∙ paste.there r (omega (arith, m, len))))

@@ -51,7 +51,6 @@ impl<'a, E: Element> MemoryShelf<'a, E> {
 
     /// The shelf over buffers that fit: (p - 1)(p + 1) cells for each stripe, and p + 1 status bytes. They stay as they are.
     /// Stop 3: one of them has another length.
-    #[tactic(auto, using(crate::proofs::Sizing::length_stop))]
     pub fn new(
         geometry: &'a Geometry,
         cells: &'a mut [E],
@@ -160,9 +159,7 @@ impl<'a, E: Element> Serviced for MemoryShelf<'a, E> {
         ensures lent { loans self.new ≡ loans self.old }
         ensures own { Serves self.old self.new device Pull }
     {
-        if self.serves(device) {
-            self.layout().sweep(device, Event::Pull, self.statuses);
-        }
+        self.sweep(device, Event::Pull);
     }
 
     fn fit(&mut self, device: usize) -> bool
@@ -171,11 +168,7 @@ impl<'a, E: Element> Serviced for MemoryShelf<'a, E> {
         ensures own { Serves self.old self.new device Fit }
         ensures answer { result ≡ (fits_of self.old && nat_le device (prime_of self.old.geometry.now)) }
     {
-        if !self.serves(device) {
-            return false;
-        }
-        self.layout().sweep(device, Event::Fit, self.statuses);
-        true
+        self.sweep(device, Event::Fit)
     }
 
     ghost devices = { memory_devices E.zero };
@@ -184,7 +177,8 @@ impl<'a, E: Element> Serviced for MemoryShelf<'a, E> {
 impl<E: Element> MemoryShelf<'_, E> {
     ghost use Rattle.std.specs.Prelude.{◌≡◌, ◌-◌, ◌&&◌, nat_le, true, MatchOption, slice_index_or};
     ghost use Rattle.tip_code.specs.Geometry.{prime_of, stripes_of};
-    ghost use Rattle.tip_memory.specs.Memory.{fits_of, CellAt, NoCell};
+    ghost use Rattle.tip_memory.specs.Memory.{fits_of, loans, CellAt, NoCell};
+    ghost use Rattle.tip_memory.specs.Writing.{Serves};
     ghost use Rattle.tip_store.specs.Layout.{HasStrip, Spotted};
     ghost use Rattle.tip_store.specs.Status.{state_for};
 
@@ -215,6 +209,20 @@ impl<E: Element> MemoryShelf<'_, E> {
         ensures { result ≡ (fits_of self.now && nat_le device (prime_of self.now.geometry.now)) }
     {
         self.fits() && device <= self.geometry.prime().number
+    }
+
+    /// Changes the status bytes of the strips on the device by an event, and says whether there are any.
+    fn sweep(&mut self, device: usize, event: Event) -> bool
+        ensures swept { Serves self.old self.new device event }
+        ensures geometry { self.new.geometry.now ≡ self.old.geometry.now }
+        ensures lent { loans self.new ≡ loans self.old }
+        ensures answer { result ≡ (fits_of self.old && nat_le device (prime_of self.old.geometry.now)) }
+    {
+        if !self.serves(device) {
+            return false;
+        }
+        self.layout().sweep(device, event, self.statuses);
+        true
     }
 
     /// Where a strip stands, or nothing where there is none.

@@ -1,3 +1,4 @@
+pub mod Marking
 pub mod Numbers
 pub mod Servicing
 pub mod Storing

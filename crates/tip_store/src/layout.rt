@@ -68,19 +68,26 @@ impl Layout {
         stripe * (self.geometry.prime().number + 1) + column
     }
 
+    /// Where a strip stands that there is.
+    fn spot_of(self, stripe: usize, column: usize) -> Spot
+        requires { HasStrip (prime_of self.geometry) (stripes_of self.geometry) stripe column }
+        ensures { Spotted (prime_of self.geometry) (stripes_of self.geometry) self.width stripe column result }
+    {
+        let number = self.number(stripe, column);
+        Spot {
+            number,
+            status: number * self.width,
+        }
+    }
+
     /// Where the strip stands, or nothing beyond the last stripe or column.
-    #[tactic(auto, using(crate::proofs::Numbers::part_within))]
     pub fn spot(self, stripe: usize, column: usize) -> Option<Spot>
         ensures { MatchOption result (HasStrip (prime_of self.geometry) (stripes_of self.geometry) stripe column → ⊥) (λ s. Spotted (prime_of self.geometry) (stripes_of self.geometry) self.width stripe column s) }
     {
         if stripe >= self.geometry.stripes() || column > self.geometry.prime().number {
             return None;
         }
-        let number = self.number(stripe, column);
-        Some(Spot {
-            number,
-            status: number * self.width,
-        })
+        Some(self.spot_of(stripe, column))
     }
 
     /// Changes the status byte of each strip of a device, which are those of the column with its number, by an event. A device above p has

@@ -1,8 +1,6 @@
-use Rattle.std.proofs.Common.{rules, subst, ◌+◌}
-use Rattle.tip_image.specs.Writing.{Worded}
+use Rattle.std.proofs.Common.{rules}
 use Rattle.tip_image.proofs.Calling.{image_restored}
 use Rattle.tip_image.proofs.ImageShelfShelf.restore.Goals as goal
 
 pub returns-clause-act : goal.returns-clause-act
-returns-clause-act c = image_restored c.args.self.now c.args.stripe c.args.column c.in-Some.spot (search rules) (search rules) _ c.args.elements.now c.write_words.new.bytes (search rules) c.write_words.ensures.small (search rules)
-    (subst (λ xs. Worded (c.in-Some.spot.status + 1) c.args.elements.now xs c.write_words.new.bytes) c.advance.ensures c.write_words.ensures.written)
+returns-clause-act c = image_restored c.args.self.now c.args.stripe c.args.column c.in-Some.spot (search rules) (search rules) _ c.args.elements.now c.advance.new.bytes c.write_words.new.bytes (search rules) c.write_words.ensures.small (search rules) (search rules) (search rules)
