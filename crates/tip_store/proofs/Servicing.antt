@@ -2,7 +2,7 @@
 use Rattle.std.proofs.Common.{◌≡◌, ◌≢◌, ℕ, ◌+◌, ◌-◌, ◌*◌, ◌<◌, ◌≤◌, Bool, true, false, List, length, refl, sym, subst, arith}
 use Rattle.std.proofs.lemmas.Bool.Decides.{nat_tests}
 use Rattle.tip_shelf.specs.Meaning.{absent}
-use Rattle.tip_shelf.specs.Calls.{Kept, stays}
+use Rattle.tip_shelf.specs.Calls.{stays}
 use Rattle.tip_shelf.specs.Service.{Pulled, Fitted, Renews}
 use Rattle.tip_shelf.specs.declared.shelf.State.{State}
 use Rattle.tip_shelf.specs.declared.shelf.State.TheVariants.{Held, Blank, Absent}
@@ -13,7 +13,7 @@ use Rattle.tip_store.specs.Status.{state_for, status_of, after, moved}
 use Rattle.tip_store.specs.declared.status.Event.{Event}
 use Rattle.tip_store.specs.declared.status.Event.TheVariants.{Pull, Fit}
 use Rattle.tip_store.proofs.Numbers.{number_below, number_one, part_within, part_one}
-use Rattle.tip_store.proofs.Storing.{strip_there, elements_alike, strip_alike}
+use Rattle.tip_store.proofs.Storing.{store_kept, strip_there, elements_alike, strip_alike}
 
 -- a state is read back from its status byte
 state_back : (q : State) → state_for (status_of q) ≡ q
@@ -34,9 +34,6 @@ pub record Befallen {E : Type 0} (p n d : ℕ) (e : Event) (s t : Store E) : Typ
   pub cells : (k r : ℕ) → k < strips_in p n → r < p - 1 → t.cell k r ≡ s.cell k r
 
 module _ {E : Type 0} (p n d : ℕ) (s t : Store E) where
-  kept : (b : Bool) → Kept (shelf_of p n b s) (shelf_of p n b t)
-  kept b = record { prime = refl; stripes = refl; device = λ i c. refl; steady = refl }
-
   -- what a strip of column d is afterwards
   becomes : (e : Event) → Befallen p n d e s t → (i : ℕ) → i < n → d ≤ p → (shelf_of p n true t).strip i d ≡ strip_in (after (state_for (s.status (strip_number p i d))) e) (elements p s (strip_number p i d))
   becomes e h i l k = rw (strip_there p n true t i d refl l k, h.there i l, state_back (after (state_for (s.status (strip_number p i d))) e), elements_alike p n true s t (strip_number p i d) (λ r m. h.cells (strip_number p i d) r (number_below p n i d l k) m)) refl
@@ -54,7 +51,7 @@ module _ {E : Type 0} (p n d : ℕ) (s t : Store E) where
 
   pub store_pulled : d ≤ p → Befallen p n d Pull s t → Pulled (shelf_of p n true s) (shelf_of p n true t) d
   store_pulled k h = record {
-    kept = kept true;
+    kept = store_kept p n true s t;
     gone = λ _ i c same. subst (λ x. (shelf_of p n true t).strip i x ≡ absent) (sym same) (pulled h i k);
     others = λ i c apart. stays (elsewhere Pull h k i c apart);
     beyond = λ less. absurd (omega arith);
@@ -62,7 +59,7 @@ module _ {E : Type 0} (p n d : ℕ) (s t : Store E) where
 
   pub store_fitted : d ≤ p → Befallen p n d Fit s t → Fitted (shelf_of p n true s) (shelf_of p n true t) d true
   store_fitted k h = record {
-    kept = kept true;
+    kept = store_kept p n true s t;
     fits = λ _ i c within same. subst (λ x. Renews true ((shelf_of p n true s).strip i x) ((shelf_of p n true t).strip i x)) (sym same) (rw (becomes Fit h i within.stripe k, strip_there p n true s i d refl within.stripe k) (renews _ _));
     refuses = λ e. absurd (grind arith);
     others = λ i c apart. stays (elsewhere Fit h k i c apart);

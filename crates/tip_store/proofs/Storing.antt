@@ -5,7 +5,7 @@ use Rattle.std.proofs.lemmas.Grind.{common_steps}
 use Rattle.std.proofs.lemmas.List.FromFn.{length-map-range_with_len, get_or-map-range_with_len, fill_by_all}
 use Rattle.std.proofs.lemmas.Option.{slice_get-get_or}
 use Rattle.tip_shelf.specs.Meaning.{Strip, held, blank, absent, Within}
-use Rattle.tip_shelf.specs.Calls.{Acted, Got, Put, Erased, Restored, got, put, erased, restored}
+use Rattle.tip_shelf.specs.Calls.{Kept, Acted, Got, Put, Erased, Restored, got, put, erased, restored}
 use Rattle.tip_shelf.proofs.Strips.{same_refl, acted_done, acted_out}
 use Rattle.tip_shelf.specs.declared.shelf.Out.{Out}
 use Rattle.tip_shelf.specs.declared.shelf.State.{State}
@@ -18,6 +18,10 @@ use Rattle.tip_store.proofs.Numbers.{number_below, number_one}
 -- a strip that there is
 pub strip_there : {E : Type 0} (p n : ℕ) (b : Bool) (s : Store E) (i c : ℕ) → b ≡ true → i < n → c ≤ p → (shelf_of p n b s).strip i c ≡ shown p s (strip_number p i c)
 strip_there p n b s i c fits h k = grind (arith, nat_tests, fits, h, k)
+
+-- no change of a store changes its sizes or devices
+pub store_kept : {E : Type 0} (p n : ℕ) (b : Bool) (s t : Store E) → Kept (shelf_of p n b s) (shelf_of p n b t)
+store_kept p n b s t = record { prime = refl; stripes = refl; device = λ i c. refl; steady = refl }
 
 -- what a strip shows by its state
 module _ {E : Type 0} (p : ℕ) (s : Store E) (k : ℕ) where
@@ -70,7 +74,7 @@ module _ {E : Type 0} (p n : ℕ) (b : Bool) (i c k : ℕ) (fits : b ≡ true) (
 
   -- where the call is done, and changes its own strip alone
   pub store_done : {A Range : Type 0} (s t : Store E) (a : A) (to : Strip E → Option (Strip E)) → Range → to (shown p s k) ≡ Some (shown p t k) → Elsewhere s t → Acted (shelf_of p n b s) (shelf_of p n b t) Range i c to (Ok a)
-  store_done s t a to range done others = acted_done a (record { prime = refl; stripes = refl; device = λ j d. refl; steady = refl }) range (rw (shows s, shows t) done) (λ j d apart. strip_alike p n b s t j d (λ u v. others (strip_number p j d) (number_below p n j d u v) (λ e. let one = number_one p j d i c v l (e ∙ number) in apart one.0 one.1)))
+  store_done s t a to range done others = acted_done a (store_kept p n b s t) range (rw (shows s, shows t) done) (λ j d apart. strip_alike p n b s t j d (λ u v. others (strip_number p j d) (number_below p n j d u v) (λ e. let one = number_one p j d i c v l (e ∙ number) in apart one.0 one.1)))
 
   pub store_got : (s : Store E) (r : ℕ) → r < p - 1 → state_for (s.status k) ≡ Held → Got (shelf_of p n b s) (shelf_of p n b s) i c r (Ok (s.cell k r))
   store_got s r row e = record {

@@ -49,7 +49,7 @@ pub fn status_of(state: State) -> u8
 }
 
 impl Event {
-    /// The state of a strip after the event: that of no strip changes but here.
+    /// The state of a strip after the event. What no arm names stays.
     pub fn after(self, state: State) -> State
         ensures { result ≡ after state self }
     {
