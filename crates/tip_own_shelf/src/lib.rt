@@ -5,6 +5,7 @@ ghost use Rattle.std.specs.Prelude.{◌≡◌, ◌&&◌, nat_lt, nat_le, length}
 ghost use Rattle.tip_code.specs.Geometry.{prime_of, stripes_of};
 ghost use Rattle.tip_own_shelf.specs.Guarding.{guarded, no_loans, Guards};
 ghost use Rattle.tip_shelf.specs.Calls.{Got};
+ghost use Rattle.tip_shelf.specs.Service.{Fitted};
 ghost use Rattle.tip_own_shelf.specs.Laws.{guarded_sound, guarded_devices};
 
 use tip_code::geometry::Geometry;
@@ -141,7 +142,11 @@ impl Serviced for Guarded {
         }
     }
 
-    fn fit(&mut self, device: usize) -> bool {
+    fn fit(&mut self, device: usize) -> bool
+        ensures act { Fitted (guarded self.old.slots) (guarded self.new.slots) device result }
+        ensures lent { no_loans ≡ no_loans }
+        ensures answer { result ≡ nat_le device 3 }
+    {
         if device > 3 {
             return false;
         }
