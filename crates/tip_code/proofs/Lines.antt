@@ -1,9 +1,10 @@
 -- Lines and the cells on them.
-use Rattle.std.proofs.Common.{◌≡◌, ℕ, ◌+◌, ◌-◌, ◌%◌, ◌<◌, Bool, true, not, ◌||◌, ltb, sym, refl, ap, ◌∙◌, arith}
+use Rattle.std.proofs.Common.{◌≡◌, ℕ, ◌+◌, ◌-◌, ◌%◌, ◌<◌, ◌≤◌, Bool, true, false, not, ◌&&◌, ◌||◌, ◌==◌, ltb, sym, refl, ap, ◌∙◌, ⊎_elim, arith}
 use Rattle.std.specs.List.{list_all}
-use Rattle.std.proofs.lemmas.Bool.{ltb-true}
+use Rattle.std.proofs.lemmas.Bool.{ltb-true, cases_Bool}
+use Rattle.std.proofs.lemmas.Bool.Decides.{nat_tests}
 use Rattle.tip_code.specs.Primes.{primes, listed}
-use Rattle.tip_code.specs.Stripe.{data_cell, line_of, crossing, Lines}
+use Rattle.tip_code.specs.Stripe.{data_cell, line_of, crossing, covers, Lines}
 use Rattle.tip_code.specs.declared.chain.Direction.{Direction}
 use Rattle.tip_code.specs.declared.chain.Direction.TheVariants.{Row, Diagonal, Antidiagonal}
 use Rattle.tip_code.proofs.Cells.{data_facts}
@@ -43,3 +44,26 @@ module _ (p : ℕ) (t : listed p ≡ true) where
     meets = meets;
     alone = alone;
   }
+
+  -- where a parity does not cover the cell in which its line crosses a column, it covers none there
+  pub covered_nowhere : (d : Direction) (i c : ℕ) → i < p → covers p d i (crossing p d i c) c ≡ false → (r : ℕ) → covers p d i r c ≡ false
+  covered_nowhere d i c low off r =
+      ⊎_elim
+      (λ (on : covers p d i r c ≡ true).
+      let cell : data_cell p r c ≡ true = grind (arith, nat_tests, on) in
+      let line : line_of p d r c ≡ i = grind (arith, nat_tests, on) in
+      let here : crossing p d i c ≡ r = meets d i r c low cell line in
+      ap (λ q. covers p d i q c) (sym here) ∙ off)
+      (λ (no : covers p d i r c ≡ false). no)
+      (cases_Bool (covers p d i r c))
+
+  -- nor does it beyond the last line or column that has data
+  pub covered_beyond : (d : Direction) (i r c : ℕ) → (i < p - 1 → c < p → ⊥) → covers p d i r c ≡ false
+  covered_beyond d i r c past =
+      ⊎_elim
+      (λ (on : covers p d i r c ≡ true).
+      let cell : data_cell p r c ≡ true = grind (arith, nat_tests, on) in
+      let line : line_of p d r c ≡ i = grind (arith, nat_tests, on) in
+      absurd (past (omega (arith, one d r c cell, line)) (data_facts p r c cell).column))
+      (λ (no : covers p d i r c ≡ false). no)
+      (cases_Bool (covers p d i r c))

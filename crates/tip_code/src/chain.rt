@@ -1,5 +1,5 @@
 // The cells of a stripe, the lines through them and the chains.
-ghost use Rattle.std.specs.Prelude.{◌≡◌, ◌+◌, ◌-◌, ◌*◌, ◌<◌, ◌≤◌, true, false, not, ◌&&◌, MatchOption, ◌==◌};
+ghost use Rattle.std.specs.Prelude.{◌≡◌, ℕ, ◌+◌, ◌-◌, ◌*◌, ◌<◌, ◌≤◌, true, false, not, ◌&&◌, MatchOption, ◌==◌};
 ghost use Rattle.tip_code.specs.Geometry.{prime_of};
 ghost use Rattle.tip_code.specs.Stripe.{parity_cell, parity_column, data_cell, line_of, crossing, covers, cell_index, Stands, Lines, chains_in, Numbered, Concerned};
 
@@ -200,6 +200,22 @@ impl Geometry {
         ensures lines { Lines (prime_of self) }
     {
         on_line(self.prime(), chain, cell)
+    }
+
+    /// The cell of a column that the parity of a chain covers, or nothing where it covers none there. It covers at most one: a line
+    /// crosses each column once.
+    #[tactic(auto, using(crate::proofs::Lines::covered_nowhere, crate::proofs::Lines::covered_beyond))]
+    pub fn covered(self, chain: Chain, column: usize) -> Option<Cell>
+        ensures { MatchOption result
+            ((r : ℕ) → covers (prime_of self) chain.direction chain.line r column ≡ false)
+            (λ c. (c.column ≡ column) × (covers (prime_of self) chain.direction chain.line c.row column ≡ true)) }
+    {
+        let prime = self.prime();
+        if chain.line >= prime.number - 1 || column >= prime.number {
+            return None;
+        }
+        let cell = chain.crossing(prime, column);
+        on_line(prime, chain, cell).then(|| cell)
     }
 
     /// The three parity cells that a write to a data cell concerns, or nothing where the cell holds no data.

@@ -62,6 +62,15 @@ count_short m (suc n) f h off =
     (λ (e : suc n ≡ m → ⊥). rw (off n (omega arith)) (count_short m n f (omega arith) off))
     (cases_eq (suc n) m)
 
+-- No more are counted than there are.
+pub count_most : (n : ℕ) (f : ℕ → Bool) → count_below n f ≤ n
+count_most zero f = omega arith
+count_most (suc n) f = step (f n) (count_below n f) (count_most n f)
+  where
+    step : (b : Bool) (k : ℕ) → k ≤ n → cond b (suc k) k ≤ suc n
+    step true k h = omega arith
+    step false k h = omega arith
+
 -- Numbers of k bits with the same bits are equal.
 pub bits_same : (k x y : ℕ) → x < 2 ^ k → y < 2 ^ k → ((n : ℕ) → n < k → bit x n ≡ bit y n) → x ≡ y
 bits_same k x y h l e =

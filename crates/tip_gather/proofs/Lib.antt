@@ -1,2 +1,3 @@
+pub mod Picking
 mod Reading
 mod Stopping

@@ -1,4 +1,4 @@
--- Strips read row by row and column by column, and the set of those that are out.
+-- Strips read row by row and column by column.
 use Rattle.std.proofs.Common.{◌≡◌, ℕ, ◌+◌, ◌-◌, ◌*◌, ◌<◌, ◌≤◌, Bool, true, false, ◌||◌, List, length, Some, Ok, Err, slice_get, slice_set, ◌==◌, refl, sym, subst, ◌∙◌, ⊎_elim, arith}
 use Rattle.std.proofs.lemmas.Bool.{cases_eq, cases_lt}
 use Rattle.std.proofs.lemmas.Bool.Decides.{nat_tests}
@@ -13,7 +13,7 @@ use Rattle.tip_shelf.proofs.Strips.{same_refl, same-then}
 use Rattle.tip_columns.specs.Sets.{in_set}
 use Rattle.tip_columns.specs.declared.Columns.{Columns}
 use Rattle.tip_shelf.proofs.Faring.{fared_same, fared-then, fares_held, out_not_held, got_fared, got_element, got_none}
-use Rattle.tip_gather.specs.Gathering.{StripRead, StripsRead, OutSet, Gathered}
+use Rattle.tip_gather.specs.Gathering.{StripRead, StripsRead, Picked, Gathered}
 
 module _ {E : Type 0} (none : E) where
   pub rows_none : (v : Meaning E) (i c : ℕ) (xs : List E) → StripRead none v v i c 0 xs xs
@@ -86,26 +86,8 @@ module _ {E : Type 0} (none : E) where
     }
 
 module _ {E : Type 0} where
-  pub set_none : (v : Meaning E) (i : ℕ) (s : Columns) → ((c : ℕ) → in_set s c ≡ false) → OutSet v v i 0 s
-  set_none v i s empty = record { same = same_refl v; columns = λ c. empty c ∙ grind (arith, nat_tests) }
-
-  module _ {v u w : Meaning E} {i n : ℕ} {s : Columns} (old : OutSet v u i n s) (same : Same u w) where
-    -- a column that is out
-    pub set_more : {t r : Columns} {b : Bool} → b ≡ is_out (u.strip i n) → b ≡ true → t ≡ r → ((c : ℕ) → in_set r c ≡ (c == n || in_set s c)) → OutSet v w i (n + 1) t
-    set_more {t} {r} {b} told o is with_it = rw is record {
-      same = same-then old.same same;
-      columns = λ c. let out : is_out (u.strip i n) ≡ true = sym told ∙ o in grind (arith, nat_tests, with_it c, old.columns c, out, old.same.strip i n);
-    }
-
-    -- a column that is held
-    pub set_skip : {t : Columns} {b : Bool} → b ≡ is_out (u.strip i n) → b ≡ false → t ≡ s → OutSet v w i (n + 1) t
-    set_skip {t} {b} told o is = rw is record {
-      same = same-then old.same same;
-      columns = λ c. let out : is_out (u.strip i n) ≡ false = sym told ∙ o in grind (arith, nat_tests, old.columns c, out, old.same.strip i n);
-    }
-
   -- all columns read, and then those that are out asked for
-  pub all_gathered : (none : E) {v u w : Meaning E} {i : ℕ} {s : Columns} {xs : List E} → Sound w → StripsRead none v u i (v.prime + 1) xs → OutSet u w i (u.prime + 1) s → Gathered none v w i s xs
+  pub all_gathered : (none : E) {v u w : Meaning E} {i : ℕ} {s : Columns} {xs : List E} → Sound w → StripsRead none v u i (v.prime + 1) xs → Picked is_out u w i (u.prime + 1) s → Gathered none v w i s xs
   all_gathered none {v} {u} {w} {i} {s} {xs} sound read out = record {
     fared = fared-then read.fared (fared_same out.same);
     columns = λ c. grind (arith, nat_tests, out.columns c, out.same.strip i c, read.fared.kept.prime);

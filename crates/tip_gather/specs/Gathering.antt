@@ -1,5 +1,6 @@
 -- What gathering a stripe promises: v is the meaning of the shelf before, and w after; i is the stripe.
-use Rattle.std.specs.Prelude.{◌≡◌, ◌≢◌, ℕ, ◌-◌, ◌<◌, ◌≤◌, ◌&&◌, List, nat_le, nat_lt, slice_index_or}
+use Rattle.std.specs.Prelude.{◌≡◌, ◌≢◌, ℕ, ◌+◌, ◌-◌, ◌<◌, ◌≤◌, Bool, ◌&&◌, List, nat_le, nat_lt, slice_index_or}
+use Rattle.tip_element.specs.Counts.{count_below}
 use Rattle.tip_code.specs.Geometry.{cells_in}
 use Rattle.tip_code.specs.Stripe.{stripe_of}
 use Rattle.tip_code.specs.declared.stop.Stop.{Stop}
@@ -30,10 +31,14 @@ pub record StripsRead {E : Type 0} (none : E) (v w : Meaning E) (i n : ℕ) (cel
   pub fared : Fared v w
   pub columns : (c : ℕ) → c < n → Copied none v.prime (w.strip i c) c (v.prime - 1) cells
 
--- Of the first n columns, the set has those that are out.
-pub record OutSet {E : Type 0} (v w : Meaning E) (i n : ℕ) (out : Columns) : Type 0 where
+-- How many strips of the stripe are out.
+abbrev pub outs : {E : Type 0} → Meaning E → ℕ → ℕ
+outs v i = count_below (v.prime + 1) (λ c. is_out (v.strip i c))
+
+-- Of the first n columns, the set has those whose strips pass the test. Nothing changed.
+pub record Picked {E : Type 0} (test : Strip E → Bool) (v w : Meaning E) (i n : ℕ) (set : Columns) : Type 0 where
   pub same : Same v w
-  pub columns : (c : ℕ) → in_set out c ≡ (nat_lt c n && is_out (v.strip i c))
+  pub columns : (c : ℕ) → in_set set c ≡ (nat_lt c n && test (v.strip i c))
 
 -- The stripe was gathered. The set has the columns that are out at the end, and each strip that is held at the end was read whole. What
 -- the stripe buffer holds of columns that are out is left open.

@@ -1,26 +1,17 @@
 // Gathering: the held strips of a stripe, read into one buffer.
-ghost use Rattle.std.specs.Prelude.{◌≡◌, ℕ, ◌+◌, ◌-◌, ◌*◌, ◌<◌, ◌≤◌, ◌||◌, true, length, slice_set, MatchResult, ◌==◌};
+ghost use Rattle.std.specs.Prelude.{◌≡◌, ℕ, ◌+◌, ◌-◌, ◌*◌, ◌<◌, ◌≤◌, true, length, slice_set, MatchResult};
 ghost use Rattle.tip_code.specs.Geometry.{cells_in};
 ghost use Rattle.tip_code.specs.Stops.{Stopped};
-ghost use Rattle.tip_columns.specs.Sets.{in_set};
 ghost use Rattle.tip_shelf.specs.Meaning.{Within};
-ghost use Rattle.tip_shelf.specs.Calls.{Same, is_out};
-ghost use Rattle.tip_gather.specs.Gathering.{GatherStop, StripRead, StripsRead, OutSet, Gathered};
+ghost use Rattle.tip_shelf.specs.Calls.{Same};
+ghost use Rattle.tip_gather.specs.Gathering.{GatherStop, StripRead, StripsRead, Gathered};
 
+use super::columns::{columns_out, is_out};
 use super::sizes::{columns_of, rows_of};
 use tip_code::stop::Stop;
 use tip_columns::Columns;
 use tip_element::element::Element;
-use tip_shelf::shelf::{Shelf, State};
-
-/// Whether a strip is out.
-fn is_out<S: Shelf>(shelf: &mut S, stripe: usize, column: usize) -> bool
-    ensures same { Same (S.meaning shelf.old) (S.meaning shelf.new) }
-    ensures out { result ≡ is_out ((S.meaning shelf.old).strip stripe column) }
-    ensures lent { S.lent shelf.new ≡ S.lent shelf.old }
-{
-    shelf.state(stripe, column) != State::Held
-}
+use tip_shelf::shelf::Shelf;
 
 /// Sets the cell of a column and row, in a stripe buffer of so many rows. A function of its own, so that an edit of the place is refused
 /// at its line.
@@ -61,29 +52,6 @@ fn read_held<S: Shelf>(shelf: &mut S, stripe: usize, cells: &mut [S::Element])
             read_strip(shelf, stripe, column, cells);
         }
     }
-}
-
-/// The set with one column more, which has a bit since p is at most 31.
-fn added(set: Columns, column: usize) -> Columns
-    requires { column < 64 }
-    ensures { (c : ℕ) → in_set result c ≡ (c == column || in_set set c) }
-{
-    set.with(column).unwrap_or(set)
-}
-
-/// The columns of a stripe whose strips are out.
-#[tactic(auto, using(crate::proofs::Reading::set_none))]
-fn columns_out<S: Shelf>(shelf: &mut S, stripe: usize) -> Columns
-    ensures out { OutSet (S.meaning shelf.old) (S.meaning shelf.new) stripe ((S.meaning shelf.old).prime + 1) result }
-    ensures lent { S.lent shelf.new ≡ S.lent shelf.old }
-{
-    let mut out = Columns(0);
-    for column in 0..columns_of(shelf) {
-        if is_out(shelf, stripe, column) {
-            out = added(out, column);
-        }
-    }
-    out
 }
 
 /// Reads the held strips of a stripe into a stripe buffer of (p - 1)(p + 1) elements, and gives the columns that are out at the end: a

@@ -4,16 +4,16 @@ ghost use Rattle.std.specs.Prelude.{◌≡◌, ◌+◌, ◌-◌, ◌≤◌};
 use tip_shelf::shelf::Shelf;
 
 /// How many rows a stripe has.
-pub(crate) fn rows_of<S: Shelf>(shelf: &S) -> usize
+pub fn rows_of<S: Shelf>(shelf: &S) -> usize
     ensures { result ≡ (S.meaning shelf.now).prime - 1 }
 {
     shelf.geometry().prime().number - 1
 }
 
 /// How many columns a stripe has.
-pub(crate) fn columns_of<S: Shelf>(shelf: &S) -> usize
+pub fn columns_of<S: Shelf>(shelf: &S) -> usize
     ensures value { result ≡ (S.meaning shelf.now).prime + 1 }
-    ensures few { result ≤ 32 }
+    ensures most { result ≤ 32 }
 {
     shelf.geometry().prime().number + 1
 }

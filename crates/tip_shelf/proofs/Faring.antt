@@ -1,8 +1,8 @@
 -- What several calls leave of a shelf that is only read, and what one get does.
-use Rattle.std.proofs.Common.{◌≡◌, ℕ, Bool, true, Some, Result, Ok, Err, slice_get, List, sym, ◌∙◌, ⊎_elim, arith}
+use Rattle.std.proofs.Common.{◌≡◌, ℕ, Bool, true, false, Some, Result, Ok, Err, slice_get, List, refl, sym, ap, ◌∙◌, ⊎_elim, arith}
 use Rattle.std.proofs.lemmas.Bool.{cases_eq}
 use Rattle.tip_shelf.specs.Meaning.{Strip, held, blank, absent, Meaning}
-use Rattle.tip_shelf.specs.Calls.{Same, Fared, is_out, Fares, stays, drops, Turns, got, InRange, Reads, Got}
+use Rattle.tip_shelf.specs.Calls.{Same, Fared, is_out, is_held, Fares, stays, drops, Turns, got, InRange, Reads, Got}
 use Rattle.tip_shelf.specs.declared.shelf.Out.{Out}
 use Rattle.tip_shelf.proofs.Strips.{kept-then, fares-then, fares_steady}
 
@@ -50,6 +50,33 @@ module _ {E : Type 0} where
           (λ (f : d ≡ c → ⊥). h.act.others j d (λ _ same. f same)) (cases_eq d c))
           (λ (e : j ≡ i → ⊥). h.act.others j d (λ same _. e same)) (cases_eq j i)
 
+  -- a strip that is out stays out
+  pub fares_out : {s : Bool} {a b : Strip E} → Fares s a b → is_out a ≡ true → is_out b ≡ true
+  fares_out (stays e) o = ap is_out e ∙ o
+  fares_out (drops f e) o = ap is_out e
+
+  -- a strip is out where it is not held
+  pub out_or_held : (s : Strip E) → is_out s ≡ true → is_held s ≡ true → ⊥
+  out_or_held (held es) o h = cc
+  out_or_held blank o h = cc
+  out_or_held absent o h = cc
+
+  out_unless_held : (s : Strip E) → ((es : List E) → s ≡ held es → ⊥) → is_out s ≡ true
+  out_unless_held (held es) h = absurd (h es refl)
+  out_unless_held blank h = refl
+  out_unless_held absent h = refl
+
+  pub held_unless_out : (s : Strip E) → is_out s ≡ false → (es : List E) × (s ≡ held es)
+  held_unless_out (held es) h = (es, refl)
+  held_unless_out blank h = absurd (cc)
+  held_unless_out absent h = absurd (cc)
+
+  -- a strip from which an element was got is held
+  pub got_is_held : (s : Bool) (a b : Strip E) (e : E) → Turns s a b (got a) (Ok e) → (es : List E) × (b ≡ held es)
+  got_is_held s (held es) b e t = (es, t)
+  got_is_held s blank b e t = absurd t
+  got_is_held s absent b e t = absurd t
+
   -- a strip from which an element was got is held, and has it
   pub got_element : (s : Bool) (a b : Strip E) (r : ℕ) (e : E) → Turns s a b (got a) (Ok e) → Reads a r (Ok e) → (es : List E) → b ≡ held es → slice_get es r ≡ Some e
   got_element s (held fs) b r e t read es h = let same : es ≡ fs = grind (arith, t, h) in rw same read
@@ -61,3 +88,7 @@ module _ {E : Type 0} where
   got_none s (held fs) b o t es h = grind (arith, t.1, h)
   got_none s blank b o t es h = let a = fares_held t h in grind (arith, a)
   got_none s absent b o t es h = let a = fares_held t h in grind (arith, a)
+
+  -- a strip that gave none is out
+  pub got_out : {v w : Meaning E} {i r c : ℕ} {o : Out} → InRange v i c r → Got {E = E} v w i c r (Err o) → is_out (w.strip i c) ≡ true
+  got_out {v} {w} {i} {r} {c} {o} range h = out_unless_held (w.strip i c) (λ es is. got_none v.steady (v.strip i c) (w.strip i c) o (h.act.here range) es is)

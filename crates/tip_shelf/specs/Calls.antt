@@ -41,6 +41,17 @@ is_out (held es) = false
 is_out blank = true
 is_out absent = true
 
+-- Whether a strip is held, and whether it is blank.
+abbrev pub is_held : {E : Type 0} → Strip E → Bool
+is_held (held es) = true
+is_held blank = false
+is_held absent = false
+
+abbrev pub is_blank : {E : Type 0} → Strip E → Bool
+is_blank (held es) = false
+is_blank blank = true
+is_blank absent = false
+
 -- Which of the three a strip is.
 abbrev pub state_of : {E : Type 0} → Strip E → State
 state_of (held es) = Held

@@ -1,0 +1,16 @@
+use Rattle.std.proofs.Common.{◌∙◌}
+use Rattle.tip_gather.proofs.Picking.{picked_more, picked_skip}
+use Rattle.tip_gather.proofs.columns.columns_blank.Goals as goal
+use Rattle.tip_gather.proofs.columns.columns_blank.Goals.{then-is_blank, else-is_blank}
+
+pub loop-column-preserved : goal.loop-column-preserved
+loop-column-preserved g c =
+    let l = c.loop-column in
+    let e = c.is_blank.ensures in
+    record {
+      picked = elim c.if-is_blank.branch [
+        | then-is_blank w ↦ picked_more l.invariant.picked e.same e.value w.if-is_blank.true w.blank-is w.added-blank.ensures
+        | else-is_blank w ↦ picked_skip l.invariant.picked e.same e.value w.if-is_blank.false w.blank-is
+      ];
+      lent = e.lent ∙ l.invariant.lent;
+    }
