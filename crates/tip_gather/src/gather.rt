@@ -13,8 +13,7 @@ use tip_columns::Columns;
 use tip_element::element::Element;
 use tip_shelf::shelf::Shelf;
 
-/// Sets the cell of a column and row, in a stripe buffer of so many rows. A function of its own, so that an edit of the place is refused
-/// at its line.
+/// Sets the cell of a column and row, in a stripe buffer of so many rows.
 fn set_cell<E: Element>(cells: &mut [E], rows: usize, column: usize, row: usize, element: E)
     requires { column * rows + row < length cells.old }
     ensures { cells.new ≡ slice_set cells.old (column * rows + row) element }
