@@ -1,9 +1,8 @@
 // Times the library's encoding and solving against the plain C of plain.c, in one run, over the same stripes.
 #include "plain.h"
+#include "timing.h"
 #include <stdio.h>
-#include <stdlib.h>
 #include <string.h>
-#include <time.h>
 
 #define STRIPES 64
 #define ROUNDS 9
@@ -21,27 +20,9 @@ static uint64_t plain[STRIPES][MOST_CELLS];
 static uint64_t lost_sets[STRIPES];
 static uint64_t work[MOST_WORK];
 
-static uint64_t state = 1;
-
-static uint64_t random_number(void) {
-    state = state * 6364136223846793005u + 1442695040888963407u;
-    return state ^ state >> 29;
-}
-
 static size_t places(size_t p) { return (p - 1) * (p - 2); }
 static size_t cells(size_t p) { return (p - 1) * (p + 1); }
 static size_t work_len(size_t p) { return 4 * (p + 1) * (p + 1); }
-
-static void stop(const char *why) {
-    fprintf(stderr, "bench: %s\n", why);
-    exit(1);
-}
-
-static void accept(uint8_t status) {
-    if (status != 0) {
-        stop("the library refused a call");
-    }
-}
 
 // What is timed: one turn over all stripes.
 typedef void turn(size_t p);
@@ -83,12 +64,6 @@ static void c_beside(size_t p) {
     for (size_t s = 0; s < STRIPES; s++) {
         plain_solve(p, plain[s], lost_sets[s]);
     }
-}
-
-static double now(void) {
-    struct timespec t;
-    clock_gettime(CLOCK_MONOTONIC, &t);
-    return (double)t.tv_sec * 1e9 + (double)t.tv_nsec;
 }
 
 // Nanoseconds for each stripe, over enough turns for about ten milliseconds.

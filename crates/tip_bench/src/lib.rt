@@ -1,8 +1,11 @@
-//! Encoding and solving for callers in C, which `bench/` times. A buffer is a pointer to its first element and a length.
+//! Encoding, solving and the calls of an array for callers in C, which `bench/` times. A buffer is a pointer to its
+//! first element and a length.
 #![tactic(auto)]
 
 ghost use Rattle.std.specs.Prelude.{◌≡◌, MatchResult};
 ghost use Rattle.tip_code.specs.Stops.{number};
+
+mod array;
 
 use tip_code::encode::encode;
 use tip_code::geometry::Geometry;
