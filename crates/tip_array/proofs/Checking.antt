@@ -27,7 +27,7 @@ use Rattle.tip_shelf.specs.Calls.{Same, Fares, stays, drops, Fared, is_held, is_
 use Rattle.tip_shelf.specs.declared.shelf.Out.{Out}
 use Rattle.tip_shelf.proofs.Strips.{same_refl}
 use Rattle.tip_shelf.proofs.Faring.{fared_same, fared-then, got_fared, got_out, out_or_held}
-use Rattle.tip_array.specs.Stripes.{element, element_at, in_chain, Whole, chain_join, Counted}
+use Rattle.tip_array.specs.Stripes.{element, element_at, in_chain, Whole, chain_join_at, Counted}
 use Rattle.tip_array.specs.Steps.{Chains, Fails, CheckStop, no_stripe, CheckStep}
 use Rattle.tip_array.specs.Checking.{Collected, LineRead, Judged, Marks, Marked, AreOut, ClearOf, ClearOfBelow, Tallied}
 use Rattle.tip_array.specs.declared.calls.Checks.{Checks}
@@ -78,7 +78,7 @@ module _ {E : Type 0} (none : E) where
         rw h.kept.prime (join_same none join n _ _ (λ c _. datum_same none v.prime (element_at none v i) (element_at none w i) (crossing v.prime d l c) c
         (λ q. sym (cell_stays (crossing v.prime d l c) c (covered_in v.prime d l (crossing v.prime d l c) c (covered_at v.prime t d l c low q))))))
 
-    pub chain_stays : (join : E → E → E) → listed v.prime ≡ true → l < v.prime - 1 → chain_join none join v i d l ≡ chain_join none join w i d l
+    pub chain_stays : (join : E → E → E) → listed v.prime ≡ true → l < v.prime - 1 → chain_join_at none join v i d l ≡ chain_join_at none join w i d l
     chain_stays join t low =
         rw h.kept.prime (ap (λ x. join x (line_join none join v.prime (element_at none v i) d l)) (sym (cell_stays l (parity_column v.prime d l) (parity_in v.prime d l)))
         ∙ ap (join (element_at none w i l (parity_column v.prime d l))) (rw h.kept.prime at (line_stays join v.prime t low)))
@@ -166,7 +166,7 @@ module _ {E : Type 0} (none : E) (join : E → E → E) {v u : Meaning E} {i r c
     pub line_then_out : {x : E} {s o : Out} → Collected u w i d l y (Err s) → Collected v w i d l x (Err o)
     line_then_out k = record { fared = fared-then (got_fared (parity_range there low column row) h) k.fared; is = k.is }
 
-    pub chain_read : Collected u w i d l (line_join none join w.prime (element_at none w i) d l) (Ok y) → Collected v w i d l (chain_join none join w i d l) (Ok (join e y))
+    pub chain_read : Collected u w i d l (line_join none join w.prime (element_at none w i) d l) (Ok y) → Collected v w i d l (chain_join_at none join w i d l) (Ok (join e y))
     chain_read k = record {
       fared = fared-then (got_fared (parity_range there low column row) h) k.fared;
       is = λ whole.
@@ -188,7 +188,7 @@ module _ {E : Type 0} {none : E} where
       other false h ne = refl
 
 module _ {E : Type 0} {none : E} {join : E → E → E} where
-  pub judged_read : {v w : Meaning E} {i : ℕ} {d : Direction} {l : ℕ} {e : E} {b : Bool} → Collected v w i d l (chain_join none join w i d l) (Ok e) → Exactly b (e ≡ none) → Judged none join v w i d l (not b)
+  pub judged_read : {v w : Meaning E} {i : ℕ} {d : Direction} {l : ℕ} {e : E} {b : Bool} → Collected v w i d l (chain_join_at none join w i d l) (Ok e) → Exactly b (e ≡ none) → Judged none join v w i d l (not b)
   judged_read {v} {w} {i} {d} {l} {e} {b} h z = record { fared = h.fared; exact = λ whole. subst (λ x. Exactly (not b) (x ≢ none)) (h.is whole) (exactly_not z) }
 
   pub judged_out : {v w : Meaning E} {i : ℕ} {d : Direction} {l : ℕ} {x : E} {o : Out} → Collected v w i d l x (Err o) → Judged none join v w i d l false
@@ -250,7 +250,7 @@ module _ {E : Type 0} {none : E} {join : E → E → E} where
         here true m e = grind (arith, nat_tests, e)
         here false m e = old.beyond m (omega arith)
 
-        chain_case : (e : Direction) (k : ℕ) → e ≡ d → k ≡ l → Whole w i e k → Exactly b (chain_join none join w i e k ≢ none)
+        chain_case : (e : Direction) (k : ℕ) → e ≡ d → k ≡ l → Whole w i e k → Exactly b (chain_join_at none join w i e k ≢ none)
         chain_case e k p q whole = rw (p, q) (h.exact (subst (λ y. Whole w i d y) q (subst (λ x. Whole w i x k) p whole)))
 
     pub marked_more : {new r : Trace} → b ≡ true → new ≡ r → ((m : ℕ) → has r m ≡ (m == n || has set m)) → Marked none join v w i (n + 1) new
@@ -388,7 +388,7 @@ datum_met p d l {set} r c q on = record {
 
 -- the tally
 module _ {E : Type 0} (none : E) (join : E → E → E) (w : Meaning E) (i : ℕ) where
-  fails_exactly : (d : Direction) (l : ℕ) (a b : Bool) → Exactly a (Whole w i d l) → (Whole w i d l → Exactly b (chain_join none join w i d l ≢ none)) → Exactly (a && b) (Fails none join w i d l)
+  fails_exactly : (d : Direction) (l : ℕ) (a b : Bool) → Exactly a (Whole w i d l) → (Whole w i d l → Exactly b (chain_join_at none join w i d l ≢ none)) → Exactly (a && b) (Fails none join w i d l)
   fails_exactly d l a b h k = record {
     sound = λ on. let whole = h.sound (grind (arith, on)) in (whole, (k whole).sound (grind (arith, on)));
     whole = λ f. and_from a b (h.whole f.0) ((k f.0).whole f.1);
@@ -404,7 +404,7 @@ module _ {E : Type 0} {none : E} {join : E → E → E} {w : Meaning E} {i : ℕ
         let whole = clear_whole num.line are clear in
         record {
           whole = counted a h.whole (chain_only (λ d l. Whole w i d l) num whole) k.whole e;
-          failing = counted (a && b) h.failing (chain_only (λ d l. Fails none join w i d l) num (fails_exactly none join w i d l a b whole (λ on. subst (λ x. Exactly x (chain_join none join w i d l ≢ none)) (sym told) (marks.exact n d l low num on)))) k.failing f;
+          failing = counted (a && b) h.failing (chain_only (λ d l. Fails none join w i d l) num (fails_exactly none join w i d l a b whole (λ on. subst (λ x. Exactly x (chain_join_at none join w i d l ≢ none)) (sym told) (marks.exact n d l low num on)))) k.failing f;
           low = rw e (at_most a old.whole n h.low);
           few = rw f (at_most (a && b) old.failing n h.few);
         }

@@ -12,7 +12,7 @@ use Rattle.tip_element.specs.declared.trace.Trace.{Trace}
 use Rattle.tip_shelf.specs.Meaning.{Meaning}
 use Rattle.tip_shelf.specs.Calls.{Fared, is_out}
 use Rattle.tip_shelf.specs.declared.shelf.Out.{Out}
-use Rattle.tip_array.specs.Stripes.{element_at, Whole, chain_join, in_chain, Counted}
+use Rattle.tip_array.specs.Stripes.{element_at, Whole, chain_join_at, in_chain, Counted}
 use Rattle.tip_array.specs.Steps.{Fails}
 use Rattle.tip_array.specs.declared.calls.Checks.{Checks}
 
@@ -35,13 +35,13 @@ pub record LineRead {E : Type 0} (none : E) (join : E → E → E) (v w : Meanin
 pub record Judged {E : Type 0} (none : E) (join : E → E → E) (v w : Meaning E)
     (i : ℕ) (d : Direction) (l : ℕ) (fails : Bool) : Type 0 where
   pub fared : Fared v w
-  pub exact : Whole w i d l → Exactly fails (chain_join none join w i d l ≢ none)
+  pub exact : Whole w i d l → Exactly fails (chain_join_at none join w i d l ≢ none)
 
 -- Of the first n chains, the set has just those that do not join to zero, as far as they lie wholly in held strips. Of
 -- the others it may have some.
 pub record Marks {E : Type 0} (none : E) (join : E → E → E) (w : Meaning E) (i n : ℕ) (set : Trace) : Type 0 where
   pub exact : (m : ℕ) (d : Direction) (l : ℕ) → m < n → Numbered w.prime d l m → Whole w i d l
-      → Exactly (has set m) (chain_join none join w i d l ≢ none)
+      → Exactly (has set m) (chain_join_at none join w i d l ≢ none)
 
 -- The first n chains were read.
 pub record Marked {E : Type 0} (none : E) (join : E → E → E) (v w : Meaning E) (i n : ℕ) (set : Trace) : Type 0 where

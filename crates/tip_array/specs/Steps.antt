@@ -17,7 +17,7 @@ use Rattle.tip_shelf.specs.Meaning.{Strip, held, blank, absent, Meaning}
 use Rattle.tip_shelf.specs.Calls.{Kept, Same, Fares, Fared, is_blank, is_held, is_out}
 use Rattle.tip_shelf.specs.Service.{Pulled, Fitted}
 use Rattle.tip_gather.specs.Gathering.{outs}
-use Rattle.tip_array.specs.Stripes.{element, IsColumn, HeldAre, Lost, concerned, Whole, chain_join, Counted}
+use Rattle.tip_array.specs.Stripes.{element, IsColumn, HeldAre, Lost, concerned, Whole, chain_join_at, Counted}
 use Rattle.tip_array.specs.declared.calls.Checks.{Checks}
 use Rattle.tip_array.specs.declared.calls.Call.{Call}
 use Rattle.tip_array.specs.declared.calls.Call.TheVariants.{Read, Write, Rebuild, Check, Pull, Fit}
@@ -148,7 +148,7 @@ pub data CheckStop {E : Type 0} (v : Meaning E) (i : ℕ) : Stop → Type 0 wher
 
 -- The chain lies wholly in held strips, and does not join to zero.
 abbrev pub Fails : {E : Type 0} → E → (E → E → E) → Meaning E → ℕ → Direction → ℕ → Type 0
-Fails none join w i d l = Whole w i d l × (chain_join none join w i d l ≢ none)
+Fails none join w i d l = Whole w i d l × (chain_join_at none join w i d l ≢ none)
 
 -- The number of chains of the stripe with the property P is k.
 abbrev pub Chains : {E : Type 0} → Meaning E → (Direction → ℕ → Type 0) → ℕ → Type 0

@@ -5,7 +5,7 @@ use Rattle.tip_element.specs.Laws.{Exactly}
 use Rattle.tip_code.specs.Geometry.{places_in}
 use Rattle.tip_code.specs.Places.{Place}
 use Rattle.tip_code.specs.Stripe.{line_of, parity_column, covers}
-use Rattle.tip_code.specs.Encoding.{line_join}
+use Rattle.tip_code.specs.Encoding.{chain_join}
 use Rattle.tip_code.specs.declared.chain.Direction.{Direction}
 use Rattle.tip_code.specs.declared.chain.Direction.TheVariants.{Row, Diagonal, Antidiagonal}
 use Rattle.tip_shelf.specs.Meaning.{Strip, held, blank, absent, Meaning, Within}
@@ -57,9 +57,8 @@ pub record Whole {E : Type 0} (v : Meaning E) (i : ℕ) (d : Direction) (l : ℕ
   pub held : (r c : ℕ) → in_chain v.prime d l r c ≡ true → is_held (v.strip i c) ≡ true
 
 -- The join of its cells.
-abbrev pub chain_join : {E : Type 0} → E → (E → E → E) → Meaning E → ℕ → Direction → ℕ → E
-chain_join none join v i d l =
-    join (element_at none v i l (parity_column v.prime d l)) (line_join none join v.prime (element_at none v i) d l)
+abbrev pub chain_join_at : {E : Type 0} → E → (E → E → E) → Meaning E → ℕ → Direction → ℕ → E
+chain_join_at none join v i d l = chain_join none join v.prime (element_at none v i) d l
 
 -- Of the numbers below n, k have the property P.
 pub record Counted (n : ℕ) (P : ℕ → Type 0) (k : ℕ) : Type 0 where

@@ -5,7 +5,7 @@ ghost use Rattle.tip_element.specs.Traces.{has};
 ghost use Rattle.tip_code.specs.Encoding.{datum, line_join};
 ghost use Rattle.tip_code.specs.Geometry.{prime_of};
 ghost use Rattle.tip_code.specs.Stripe.{crossing, chains_in};
-ghost use Rattle.tip_array.specs.Stripes.{element_at, chain_join, Whole};
+ghost use Rattle.tip_array.specs.Stripes.{element_at, chain_join_at, Whole};
 ghost use Rattle.tip_code.specs.Stops.{number};
 ghost use Rattle.tip_array.specs.Steps.{CheckStep, Chains, Fails};
 ghost use Rattle.tip_array.specs.Keeping.{OnlyReads};
@@ -66,7 +66,7 @@ fn chain_join<S: Shelf>(shelf: &mut S, stripe: usize, chain: Chain) -> Result<S:
     requires there { stripe < (S.meaning shelf.old).stripes }
     requires line { chain.line < (S.meaning shelf.old).prime - 1 }
     ensures collected { Collected (S.meaning shelf.old) (S.meaning shelf.new) stripe chain.direction chain.line
-        (chain_join S.Element.zero S.Element.join (S.meaning shelf.new) stripe chain.direction chain.line) result }
+        (chain_join_at S.Element.zero S.Element.join (S.meaning shelf.new) stripe chain.direction chain.line) result }
     ensures lent { S.lent shelf.new ≡ S.lent shelf.old }
 {
     let Some(cell) = shelf.geometry().parity(chain) else {

@@ -1,5 +1,5 @@
 -- Which cells hold data, as facts on numbers; where cells stand in a stripe buffer.
-use Rattle.std.proofs.Common.{◌≡◌, ℕ, ◌+◌, ◌-◌, ◌*◌, ◌<◌, ◌≤◌, true, false, ◌⊎◌, arith}
+use Rattle.std.proofs.Common.{◌≡◌, ℕ, ◌+◌, ◌-◌, ◌*◌, ◌<◌, ◌≤◌, true, false, ◌⊎◌, mul_comm, arith}
 use Rattle.std.proofs.lemmas.Nat.{mul-add-lt, same_from_place}
 use Rattle.std.proofs.lemmas.Bool.Decides.{nat_tests}
 use Rattle.std.proofs.lemmas.Bool.{false_from_ne_true}
@@ -40,3 +40,6 @@ index_apart p r c s d h k e = let same = same_from_place c r d s (p - 1) h k e i
 
 pub index_within : (p r c : ℕ) → r < p - 1 → c ≤ p → cell_index p r c < (p - 1) * (p + 1)
 index_within p r c h l = mul-add-lt c (p - 1) r (p + 1) (omega arith) h
+
+pub index_before : (p r c : ℕ) → r < p - 1 → c < p → cell_index p r c < p * (p - 1)
+index_before p r c h l = omega (arith, mul-add-lt c (p - 1) r p l h, mul_comm (p - 1) p)

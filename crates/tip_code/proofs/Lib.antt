@@ -5,5 +5,7 @@ pub mod Filling
 pub mod Lines
 pub mod Numbers
 pub mod Remainders
+pub mod Rows
 pub mod Sizes
+pub mod Steps
 pub mod Tables

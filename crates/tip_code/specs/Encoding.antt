@@ -17,11 +17,9 @@ datum none p X r c = cond (data_cell p r c) (X r c) none
 abbrev pub line_join : {E : Type 0} → E → (E → E → E) → ℕ → (ℕ → ℕ → E) → Direction → ℕ → E
 line_join none join p X d i = join_below none join p (λ c. datum none p X (crossing p d i c) c)
 
--- Y is X with the parities of direction d set in the lines below n: each is the join of the data cells that X has on its
--- line, and every other cell of the stripe stays.
-pub record Filled {E : Type 0} (none : E) (join : E → E → E) (p : ℕ) (d : Direction) (n : ℕ) (X Y : ℕ → ℕ → E) : Type 0 where
-  pub set : (i : ℕ) → i < n → Y i (parity_column p d i) ≡ line_join none join p X d i
-  pub kept : (r c : ℕ) → r < p - 1 → c ≤ p → (r < n → c ≢ parity_column p d r) → Y r c ≡ X r c
+-- The join of a chain: the parity of line i joined with the data cells on the line. It is zero in an encoded stripe.
+abbrev pub chain_join : {E : Type 0} → E → (E → E → E) → ℕ → (ℕ → ℕ → E) → Direction → ℕ → E
+chain_join none join p X d i = join (X i (parity_column p d i)) (line_join none join p X d i)
 
 -- X is an encoded stripe: each parity is the join of the data cells on its row, diagonal or antidiagonal.
 pub record Encoded {E : Type 0} (none : E) (join : E → E → E) (p : ℕ) (X : ℕ → ℕ → E) : Type 0 where

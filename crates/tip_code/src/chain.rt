@@ -79,6 +79,7 @@ pub(crate) fn index_of(prime: Prime, cell: Cell) -> usize
     requires { (cell.row < prime.number - 1) × (cell.column ≤ prime.number) }
     ensures value { result ≡ cell_index prime.number cell.row cell.column }
     ensures within { result < (prime.number - 1) * (prime.number + 1) }
+    ensures below { cell.column < prime.number → result < prime.number * (prime.number - 1) }
 {
     cell.column * (prime.number - 1) + cell.row
 }

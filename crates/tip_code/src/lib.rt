@@ -4,7 +4,9 @@
 pub mod chain;
 pub mod encode;
 pub mod geometry;
+mod joins;
 pub mod places;
+mod placing;
 pub mod prime;
 pub mod stop;
 pub mod stripe;

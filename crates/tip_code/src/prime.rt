@@ -31,6 +31,15 @@ impl Prime {
         }
     }
 
+    /// The prime P, for code in which it is a constant.
+    #[inline(always)]
+    pub(crate) fn known<const P: usize>() -> Prime
+        requires { listed P ≡ true }
+        ensures { result.number ≡ P }
+    {
+        Prime { number: P }
+    }
+
     /// The number once round: less p where it is not below p. Of a number below 2p that is the remainder mod p.
     pub fn wrapped(self, number: usize) -> usize
         ensures low { number < self.number → result ≡ number }
@@ -48,3 +57,24 @@ impl fmt::Display for Prime {
         write!(f, "{}", self.number)
     }
 }
+
+/// Calls a function with the prime as a constant. A `Prime` has no other number than these: with one left out the last
+/// arm has no proof.
+macro_rules! at_prime {
+    ($prime:expr, $e:ident, $f:ident($($argument:expr),*)) => {
+        match $prime.number {
+            3 => $f::<3, $e>($($argument),*),
+            5 => $f::<5, $e>($($argument),*),
+            7 => $f::<7, $e>($($argument),*),
+            11 => $f::<11, $e>($($argument),*),
+            13 => $f::<13, $e>($($argument),*),
+            17 => $f::<17, $e>($($argument),*),
+            19 => $f::<19, $e>($($argument),*),
+            23 => $f::<23, $e>($($argument),*),
+            29 => $f::<29, $e>($($argument),*),
+            _ => $f::<31, $e>($($argument),*),
+        }
+    };
+}
+
+pub(crate) use at_prime;

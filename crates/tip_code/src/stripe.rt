@@ -2,9 +2,10 @@
 ghost use Rattle.std.specs.Prelude.{◌≡◌, length};
 ghost use Rattle.tip_code.specs.Geometry.{cells_in};
 
-use super::chain::{Chain, Direction, index_of, is_data};
-use super::places::place_cell;
+use super::chain::{Chain, Direction, index_of};
+use super::joins::{chains_by, line_by};
 use super::prime::Prime;
+use super::stop::Stop;
 use tip_element::element::Element;
 
 /// A lent stripe buffer of (p - 1)(p + 1) elements, column after column.
@@ -16,65 +17,40 @@ pub struct Stripe<'a, E> {
 }
 
 impl<E: Element> Stripe<'_, E> {
-    ghost use Rattle.std.specs.Prelude.{◌≡◌, ℕ, ◌-◌, ◌<◌, length, slice_index_or};
-    ghost use Rattle.tip_code.specs.Buffer.{cells_of, SameBuffer};
-    ghost use Rattle.tip_code.specs.Encoding.{line_join, Filled, Encodes};
-    ghost use Rattle.tip_code.specs.Geometry.{places_in};
-    ghost use Rattle.tip_code.specs.Places.{Place};
-    ghost use Rattle.tip_code.specs.Stripe.{stripe_of};
+    ghost use Rattle.std.specs.Prelude.{◌≡◌, ℕ, ◌-◌, ◌<◌, ◌≤◌, ◌≢◌, MatchOption, MatchResult, length, slice_index_or};
+    ghost use Rattle.tip_code.specs.Buffer.{cells_of};
+    ghost use Rattle.tip_code.specs.Encoding.{chain_join};
+    ghost use Rattle.tip_code.specs.declared.stop.Stop.TheVariants as stop;
 
-    /// The join of the data cells of a line.
-    #[tactic(auto, using(crate::proofs::Cells::data_facts))]
-    pub(crate) fn line_join(&self, chain: Chain) -> E
-        requires { chain.line < self.now.prime.number - 1 }
-        ensures { result ≡ line_join E.zero E.join self.now.prime.number (cells_of E.zero self.now) chain.direction chain.line }
+    /// The join of all cells of a chain: zero where its parity is right. Nothing where the stripe has no such chain.
+    pub fn chain_join(&self, chain: Chain) -> Option<E>
+        ensures { MatchOption result
+            (self.now.prime.number - 1 ≤ chain.line)
+            (λ e. (chain.line < self.now.prime.number - 1)
+            × (e ≡ chain_join E.zero E.join self.now.prime.number
+            (cells_of E.zero self.now) chain.direction chain.line)) }
     {
-        let mut all = E::zero();
-        // A plain loop and no `fold`, as all joins are here.
-        for column in 0..self.prime.number {
-            let cell = chain.crossing(self.prime, column);
-            if is_data(self.prime, cell) {
-                all = all.join(self.cells[index_of(self.prime, cell)]);
-            }
+        if chain.line >= self.prime.number - 1 {
+            return None;
         }
-        all
+        let parity = self.cells[index_of(self.prime, chain.parity_cell(self.prime))];
+        Some(parity.join(line_by(self.prime, chain, self.cells)))
     }
 
-    /// Puts each element into the cell of its place.
-    #[tactic(auto, using(crate::proofs::Cells::data_facts))]
-    pub(crate) fn place_all(&mut self, values: &[E])
-        requires { length values.now ≡ places_in self.old.prime.number }
-        ensures same { SameBuffer self.old self.new }
-        ensures placed { (n r c : ℕ) → Place self.old.prime.number n r c → stripe_of E.zero self.old.prime.number self.new.cells.now r c ≡ slice_index_or values.now n E.zero }
+    /// The joins of all chains of a direction, each as `chain_join` gives it, in a run of p - 1 elements.
+    /// Stop 3: the run has another length, and nothing is written.
+    pub fn chain_joins(&self, direction: Direction, joins: &mut [E]) -> Result<(), Stop>
+        ensures stop { MatchResult result (λ _. length joins.old ≡ self.now.prime.number - 1)
+            (λ s. (s ≡ stop.Length) × (length joins.old ≢ self.now.prime.number - 1)) }
+        ensures joins { MatchResult result
+            (λ _. (i : ℕ) → i < self.now.prime.number - 1 → slice_index_or joins.new i E.zero
+            ≡ chain_join E.zero E.join self.now.prime.number (cells_of E.zero self.now) direction i)
+            (λ _. joins.new ≡ joins.old) }
     {
-        for (place, value) in values.iter().enumerate() {
-            let cell = place_cell(self.prime, place);
-            self.cells[index_of(self.prime, cell)] = *value;
+        if joins.len() != self.prime.number - 1 {
+            return Err(Stop::Length);
         }
-    }
-
-    /// Sets the parities of one direction, and leaves all other cells.
-    pub(crate) fn set_parities(&mut self, direction: Direction)
-        ensures same { SameBuffer self.old self.new }
-        ensures filled { Filled E.zero E.join self.old.prime.number direction (self.old.prime.number - 1) (cells_of E.zero self.old) (stripe_of E.zero self.old.prime.number self.new.cells.now) }
-    {
-        for line in 0..self.prime.number - 1 {
-            let chain = Chain { direction, line };
-            let parity = self.line_join(chain);
-            let cell = chain.parity_cell(self.prime);
-            self.cells[index_of(self.prime, cell)] = parity;
-        }
-    }
-
-    /// Makes this the encoding of the values.
-    pub(crate) fn encode(&mut self, values: &[E])
-        requires { length values.now ≡ places_in self.old.prime.number }
-        ensures same { SameBuffer self.old self.new }
-        ensures encoded { Encodes E.zero E.join self.old.prime.number (λ n. slice_index_or values.now n E.zero) (stripe_of E.zero self.old.prime.number self.new.cells.now) }
-    {
-        self.place_all(values);
-        self.set_parities(Direction::Row);
-        self.set_parities(Direction::Diagonal);
-        self.set_parities(Direction::Antidiagonal);
+        chains_by(self.prime, direction, self.cells, joins);
+        Ok(())
     }
 }
