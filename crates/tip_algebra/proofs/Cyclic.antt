@@ -1,8 +1,9 @@
 -- Indices mod p, by periodic functions.
-use Rattle.std.proofs.Common.{◌≡◌, ℕ, zero, suc, ◌+◌, ◌-◌, ◌*◌, ◌/◌, ◌%◌, ◌<◌, ◌≤◌, List, get_or, sym, ap, ◌∙◌, mod-lt, mod-eq_of_lt, suc-mul, div-add-mod', zero-mul, arith}
-use native.Mathlib.Nat.{add-mod_right, add-mod-mod, mod-add-mod}
+use Rattle.std.proofs.Common.{◌≡◌, ℕ, zero, suc, ◌+◌, ◌-◌, ◌*◌, ◌/◌, ◌%◌, ◌<◌, ◌≤◌, List, get_or, sym, ap, ◌∙◌, ⊎_elim, mod-lt, mod-eq_of_lt, suc-mul, div-add-mod', zero-mul, arith}
+use native.Mathlib.Nat.{add-mod_right, mod-add-mod}
+use Rattle.std.proofs.lemmas.Bool.{cases_lt}
 use Rattle.tip_code.proofs.Remainders.{wrap_high}
-use Rattle.tip_algebra.specs.Cyclic.{Per, Holds}
+use Rattle.tip_algebra.specs.Cyclic.{Per, Holds, Twice}
 
 module _ {E : Type 0} (p : ℕ) (X : ℕ → E) (per : Per p X) where
   -- m periods on
@@ -24,13 +25,6 @@ module _ {E : Type 0} (p : ℕ) (X : ℕ → E) (per : Per p X) where
 pub mod_per : (p : ℕ) → Per p (λ a. a % p)
 mod_per p i = add-mod_right i p
 
--- the index that is `turn` after i, before and after the end of the period
-pub turn_low : (p i turn start : ℕ) → start ≡ turn % p → i + start < p → (i + turn) % p ≡ i + start
-turn_low p i turn start e h = rw (← add-mod-mod i turn p, ← e) (mod-eq_of_lt h)
-
-pub turn_high : (p i turn start : ℕ) → start ≡ turn % p → start < p → i < p → p ≤ i + start → (i + turn) % p ≡ i + start - p
-turn_high p i turn start e l k h = rw (← add-mod-mod i turn p, ← e) (sym (wrap_high p (i + start) h (omega arith)))
-
 -- a list that holds one turn, read at an index mod p
 module _ {E : Type 0} (none : E) (p : ℕ) (X : ℕ → E) (per : Per p X) (xs : List E) (holds : Holds none p xs X) (some : 0 < p) where
   pub held_mod : (k : ℕ) → get_or xs (k % p) none ≡ X k
@@ -38,3 +32,14 @@ module _ {E : Type 0} (none : E) (p : ℕ) (X : ℕ → E) (per : Per p X) (xs :
 
   pub held_mod_add : (k j : ℕ) → get_or xs ((k % p + j) % p) none ≡ X (k + j)
   held_mod_add k j = rw mod-add-mod (held_mod (k + j))
+
+-- a list that holds a turn twice, read on from any index
+pub twice_at : {E : Type 0} (none : E) (p : ℕ) (xs : List E) → Twice none p xs → (k : ℕ) → k < p + p
+    → get_or xs k none ≡ get_or xs (k % p) none
+twice_at none p xs twice k low =
+    ⊎_elim
+    (λ (h : k < p). ap (λ n. get_or xs n none) (sym (mod-eq_of_lt h)))
+    (λ (h : p ≤ k).
+    ap (λ n. get_or xs n none) (omega arith) ∙ twice (k - p) (omega arith) ∙ ap (λ n. get_or xs n none)
+    (wrap_high p k h low))
+    (cases_lt k p)

@@ -1,5 +1,5 @@
 -- Any p - 2 columns decide an encoded stripe: the join of two that agree there is encoded too, and zero everywhere.
-use Rattle.std.proofs.Common.{◌≡◌, ℕ, zero, suc, ◌+◌, ◌-◌, ◌*◌, ◌%◌, ◌<◌, ◌≤◌, Bool, true, false, cond, not, ◌||◌, eqb, List, [], ◌∷◌, get_or, replicate, sym, refl, ap, ◌∙◌, ⊎_elim, mod-lt, mod-eq_of_lt, suc-mul, zero-mul, arith, rules}
+use Rattle.std.proofs.Common.{◌≡◌, ℕ, zero, suc, ◌+◌, ◌-◌, ◌*◌, ◌%◌, ◌<◌, ◌≤◌, Bool, true, false, cond, not, ◌||◌, eqb, List, [], ◌∷◌, get_or, replicate, sym, refl, ap, ◌∙◌, ⊎_elim, mod-lt, mod-eq_of_lt, suc-mul, zero-mul, zero-add, arith, rules}
 use Rattle.std.proofs.lemmas.List.{places}
 use Rattle.std.proofs.lemmas.Bool.Decides.{nat_tests}
 use native.Mathlib.Nat.{mod-add-mod, zero-mod}
@@ -19,7 +19,7 @@ use Rattle.tip_algebra.specs.Decided.{Decided}
 use Rattle.tip_algebra.specs.Known.{except, KnownSums}
 use Rattle.tip_algebra.specs.Unfolded.{unfolded, excess, at_last, unfolded_anti, folded}
 use Rattle.tip_algebra.specs.Unknown.{PairSums, TripleSums}
-use Rattle.tip_algebra.proofs.Constants.{fixed, at_zero}
+use Rattle.tip_algebra.proofs.Constants.{fixed}
 use Rattle.tip_algebra.proofs.Counts.{TwoLost, ThreeLost, count_not, lost_columns}
 use Rattle.tip_algebra.proofs.Group.{v, ◌⊕◌, ◌≐◌, same, solveBy}
 use Rattle.tip_algebra.proofs.Lost.{two_rows, two_folded, two_plain, three_folded, three_plain}
@@ -102,16 +102,20 @@ module _ {E : Type 0} {none : E} {join : E → E → E} (laws : Laws none join) 
       ∙ multiples p u t steps pos k
 
 module _ {E : Type 0} {none : E} {join : E → E → E} (laws : Laws none join) (p : ℕ) (prime : PrimeFacts p) where
-  zeros_divided : (u : ℕ) → 0 < u → u < p → (t : ℕ → E) → Steps none join p u (zeros none p) t → Divided none join p (zeros none p) t
+  zeros_divided : (u : ℕ) → 0 < u → u < p → (t : ℕ → E) → Steps none join p u (zeros none p) t
+      → Divided none join p 0 (zeros none p) t
   zeros_divided u h l t steps =
-      walked_all laws p u (zeros none p) t prime h l
-      (λ k _. zeros_at none p (k * u % p) ∙ sym (ap (λ x. join x (t 0)) (multiples laws p u t steps (omega arith) k) ∙ laws.cancel (t 0)))
+      walked_all laws p 0 u (zeros none p) t prime (omega arith) h l
+      (λ k _. zeros_at none p ((0 + k * u) % p)
+      ∙ sym (ap (λ n. join (t (n % p)) (t 0)) (zero-add (k * u)) ∙ ap (λ x. join x (t 0))
+      (multiples laws p u t steps (omega arith) k) ∙ laws.cancel (t 0)))
 
   zeros_from : (u : ℕ) → 0 < u → u < p → (k : ℕ) → k < p → (t : ℕ → E) → Steps none join p u (zeros none p) t → t k ≡ none → Holds none p (zeros none p) t
   zeros_from u h l k low t steps e =
       let z = zeros none p in
       let q = zeros_divided u h l t steps in
-      fixed laws p z z none t q (sym (zeros_at none p k) ∙ at_zero laws p k z t low q e) (λ i _. sym (right laws (get_or z i none)))
+      fixed laws p 0 z z none t q (sym (zeros_at none p k) ∙ q k low ∙ ap (λ x. join x (t 0)) e ∙ laws.neutral (t 0))
+      (λ i _. sym (right laws (get_or z i none)))
 
   -- two unknown columns whose joins are zero
   pair_zero : (f h : ℕ) → f < h → h < p → (X Y : ℕ → E) → PairSums none join p f h (zeros none p) (zeros none p) X Y → Holds none p (zeros none p) X × Holds none p (zeros none p) Y
@@ -156,13 +160,13 @@ module _ {E : Type 0} {none : E} {join : E → E → E} (laws : Laws none join) 
     column_zero u e =
         column_same laws p W (λ _ _. none) c l (λ i b. u i b ∙ sym (blank_unfolded c i)) (e ∙ sym (blank_excess c))
 
-    zero_unfolded : ((r : ℕ) → r < p - 1 → W r c ≡ none) → (i : ℕ) → unfolded none p W c i ≡ none
+    pub zero_unfolded : ((r : ℕ) → r < p - 1 → W r c ≡ none) → (i : ℕ) → unfolded none p W c i ≡ none
     zero_unfolded z i = unfolded_same none p W (λ _ _. none) c l z i ∙ blank_unfolded c i
 
-    zero_excess : ((r : ℕ) → r < p - 1 → W r c ≡ none) → excess none join p W c ≡ none
+    pub zero_excess : ((r : ℕ) → r < p - 1 → W r c ≡ none) → excess none join p W c ≡ none
     zero_excess z = excess_same none p join W (λ _ _. none) c l z ∙ blank_excess c
 
-    zero_anti : ((r : ℕ) → r < p - 1 → W r c ≡ none) → (i : ℕ) → unfolded_anti none join p W c i ≡ none
+    pub zero_anti : ((r : ℕ) → r < p - 1 → W r c ≡ none) → (i : ℕ) → unfolded_anti none join p W c i ≡ none
     unfolding at_last
     zero_anti z i = grind (arith, laws.neutral none, zero_unfolded z i, zero_excess z)
 

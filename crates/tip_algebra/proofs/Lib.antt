@@ -1,13 +1,12 @@
+pub mod Chains
 pub mod Constants
 pub mod Counts
 pub mod Cyclic
 pub mod Decided
-pub mod Gathering
 pub mod Group
 pub mod Lost
 pub mod Middle
 pub mod Pair
-pub mod Parts
 pub mod Rules
 pub mod Sums
 pub mod Unfolding

@@ -10,9 +10,9 @@ use Rattle.tip_code.specs.Encoding.{Encoded}
 use Rattle.tip_algebra.specs.Cyclic.{opposite}
 use Rattle.tip_algebra.specs.Known.{except, KnownSums}
 use Rattle.tip_algebra.specs.Unfolded.{unfolded, excess, at_last, unfolded_anti, folded}
-use Rattle.tip_algebra.specs.Unknown.{PairSums, TripleSums}
+use Rattle.tip_algebra.specs.Unknown.{PairSums, RowPairSums, TripleSums}
 use Rattle.tip_algebra.proofs.Group.{v, ◌⊕◌, ◌≐◌, solveBy}
-use Rattle.tip_algebra.proofs.Cyclic.{per_mod, per_mod_add}
+use Rattle.tip_algebra.proofs.Cyclic.{per_at, per_mod, per_mod_add}
 use Rattle.tip_algebra.proofs.Sums.{sum_take}
 use Rattle.tip_algebra.proofs.Rules.{mod_at, opposite_at, anti_apart, unfolded_per, unfolded_zero, at_last_top, at_last_off, at_last_even, anti_per, anti_off, folded_per, folded_zero, folded_last, rule_diagonal, rule_antidiagonal, rule_row, rule_last, rule_excess}
 
@@ -25,6 +25,13 @@ module _ {E : Type 0} {none : E} {join : E → E → E} (laws : Laws none join) 
       ∙ ap (join (F k)) (join_same none join n _ _ (λ c _. grind arith))
 
   -- what the known columns join to, with the sum s of all, is what the unknown ones do
+  pub sum_one : (p f : ℕ) → f < p → (F : ℕ → E) (s k : E) → join_below none join p F ≡ s
+      → k ≡ join_below none join p (except none (λ c. eqb c f) F) → join k s ≡ F f
+  sum_one p f fp F s k all known =
+      solveBy laws (k ∷ s ∷ F f ∷ join_below none join p F ∷ join_below none join p (except none (λ c. eqb c f) F) ∷ [])
+      (v 0 ⊕ v 1) (v 2) ((v 3 ≐ v 1) ∷ (v 0 ≐ v 4) ∷ (v 3 ≐ v 2 ⊕ v 4) ∷ []) tt
+      (all, (known, (sum_take laws p f F fp, tt)))
+
   pub sum_two : (p f h : ℕ) → f < h → h < p → (F : ℕ → E) (s k : E) → join_below none join p F ≡ s → k ≡ join_below none join p (except none (λ c. eqb c f || eqb c h) F) → join k s ≡ join (F f) (F h)
   sum_two p f h fh hp F s k all known =
       solveBy laws
@@ -99,6 +106,21 @@ module _ {E : Type 0} {none : E} {join : E → E → E} (laws : Laws none join) 
   column_excess e same =
       grind (arith, nat_tests, mod_at p 0 0 (i + c) (p - 1), anti_apart p i c l h, at_last_top none p (excess none join p X c) (i + c), at_last_off none p (excess none join p X c) (i + c))
 
+-- Column f alone is unknown.
+module _ {E : Type 0} {none : E} {join : E → E → E} (laws : Laws none join) (p : ℕ) (prime : PrimeFacts p)
+    (X : ℕ → ℕ → E) (x : Encoded none join p X) (f : ℕ) (fp : f < p) (d : List E)
+    (known : (i : ℕ) → i < p → get_or d i none ≡ join_below none join p
+    (except none (λ c. eqb c f) (λ c. unfolded none p X c (i + (p - c))))) where
+  pub one_diagonal : (i : ℕ) → i < p → get_or d ((i + f) % p) none ≡ unfolded none p X f i
+  one_diagonal i l =
+      let k = (i + f) % p in
+      let low : k < p = mod-lt (i + f) (omega arith) in
+      sym (right laws (get_or d k none))
+      ∙ sum_one laws p f fp (λ c. unfolded none p X c (k + (p - c))) none (get_or d k none)
+      (rule_diagonal laws p prime X x k low) (known k low)
+      ∙ per_mod_add p (unfolded none p X f) (unfolded_per none p X f) (i + f) (p - f)
+      ∙ per_at p (unfolded none p X f) (unfolded_per none p X f) 0 1 (i + f + (p - f)) i (omega arith)
+
 -- Columns f and h are unknown.
 module _ {E : Type 0} {none : E} {join : E → E → E} (laws : Laws none join) (p : ℕ) (prime : PrimeFacts p) (X : ℕ → ℕ → E) (x : Encoded none join p X) (f h : ℕ) (fh : f < h) (hp : h < p) (d a r : List E) (e : E) (k : KnownSums none join p (λ c. eqb c f || eqb c h) X d a r e) where
   two_diagonal : (i : ℕ) → i < p → get_or d i none ≡ join (unfolded none p X f (i + (p - f))) (unfolded none p X h (i + (p - h)))
@@ -111,11 +133,35 @@ module _ {E : Type 0} {none : E} {join : E → E → E} (laws : Laws none join) 
       sym (right laws (get_or a i none))
       ∙ sum_two laws p f h fh hp (λ c. unfolded_anti none join p X c (i + c)) none (get_or a i none) (rule_antidiagonal laws p prime X x i l) (k.antidiagonal i l)
 
+  pub two_excess : e ≡ join (excess none join p X f) (excess none join p X h)
+  two_excess = sym (right laws e) ∙ sum_two laws p f h fh hp (λ c. excess none join p X c) none e
+      (rule_excess laws p prime X x) k.excesses
+
   pub two_rows : (i : ℕ) → i < p - 1 → join (join (get_or r i none) (unfolded none p X f i)) (unfolded none p X h i) ≡ X i p
   two_rows i l =
       let b : i < p = omega arith in
       solveBy laws (get_or r i none ∷ unfolded none p X f i ∷ unfolded none p X h i ∷ X i p ∷ []) ((v 0 ⊕ v 1) ⊕ v 2) (v 3) ((v 0 ⊕ v 3 ≐ v 1 ⊕ v 2) ∷ []) tt
       (sum_two laws p f h fh hp (λ c. unfolded none p X c i) (X i p) (get_or r i none) (rule_row laws p prime X x i l) (k.row i b), tt)
+
+  -- with the row parities, rows and diagonals are enough
+  pub two_by_rows : (r' : List E) → ((i : ℕ) → i < p - 1 → get_or r' i none ≡ join (get_or r i none) (X i p))
+      → get_or r' (p - 1) none ≡ join (get_or r (p - 1) none) (join_below none join (p - 1) (λ i. X i p))
+      → RowPairSums none join p f h r' d (unfolded none p X f) (unfolded none p X h)
+  two_by_rows r' rows last = record {
+    first = unfolded_per none p X f;
+    last = unfolded_per none p X h;
+    last_zero = unfolded_zero none p X h hp;
+    row = λ i l. ⊎_elim
+        (λ (b : i < p - 1). rows i b ∙ sum_two laws p f h fh hp (λ c. unfolded none p X c i) (X i p) (get_or r i none)
+        (rule_row laws p prime X x i b) (k.row i l))
+        (λ (b : p - 1 ≤ i).
+        let t : i ≡ p - 1 = omega arith in
+        rw t (last ∙ sum_two laws p f h fh hp (λ c. unfolded none p X c (p - 1))
+        (join_below none join (p - 1) (λ i. X i p)) (get_or r (p - 1) none) (rule_last laws p prime X x)
+        (k.row (p - 1) (omega arith))))
+        (cases_lt i (p - 1));
+    diagonal = two_diagonal;
+  }
 
   pub two_folded : (de ae : List E) → ((i : ℕ) → i < p → get_or de i none ≡ join (get_or d i none) (get_or a (opposite p i % p) none)) → ((i : ℕ) → i < p → get_or ae i none ≡ join (get_or a i none) (get_or d (opposite p i % p) none)) → PairSums none join p f h de ae (folded none join p X f) (folded none join p X h)
   two_folded de ae hd ha =
@@ -165,7 +211,7 @@ module _ {E : Type 0} {none : E} {join : E → E → E} (laws : Laws none join) 
       rw t (last ∙ three (λ c. unfolded none p X c (p - 1)) (join_below none join (p - 1) (λ i. X i p)) (get_or r (p - 1) none) (rule_last laws p prime X x) (k.row (p - 1) (omega arith))))
       (cases_lt i (p - 1))
 
-  three_excess : e ≡ join (join (excess none join p X f) (excess none join p X g)) (excess none join p X h)
+  pub three_excess : e ≡ join (join (excess none join p X f) (excess none join p X g)) (excess none join p X h)
   three_excess = sym (right laws e) ∙ three (λ c. excess none join p X c) none e (rule_excess laws p prime X x) k.excesses
 
   pub three_folded : (de ae re : List E) → ((i : ℕ) → i < p → get_or de i none ≡ join (get_or d i none) (get_or a (opposite p i % p) none)) → ((i : ℕ) → i < p → get_or ae i none ≡ join (get_or a i none) (get_or d (opposite p i % p) none)) → ((i : ℕ) → i < p - 1 → get_or re i none ≡ join (get_or r' i none) (get_or r' (opposite p i % p) none)) → get_or re (p - 1) none ≡ e → TripleSums none join p f g h re de ae (folded none join p X f) (folded none join p X g) (folded none join p X h)

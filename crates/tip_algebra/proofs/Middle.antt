@@ -5,7 +5,7 @@ use Rattle.tip_element.specs.Laws.{Laws}
 use Rattle.tip_element.proofs.Joins.{join_same}
 use Rattle.tip_code.specs.Primes.{PrimeFacts}
 use Rattle.tip_algebra.specs.Cyclic.{Per, Holds, Steps, Divided}
-use Rattle.tip_algebra.specs.Unknown.{PairSums, TripleSums}
+use Rattle.tip_algebra.specs.Unknown.{PairSums, RowPairSums, TripleSums}
 use Rattle.tip_algebra.proofs.Constants.{fixed}
 use Rattle.tip_algebra.proofs.Cyclic.{per_at, per_mod, per_mod_add, held_mod, held_mod_add}
 use Rattle.tip_algebra.proofs.Group.{v, ◌⊕◌, ◌≐◌, solve, solveBy}
@@ -29,7 +29,8 @@ module _ {E : Type 0} {none : E} {join : E → E → E} (laws : Laws none join) 
       ∙ laws.cancel (join_below none join p M)
 
   -- so the constant is the join of all that the division leaves: an odd number of copies of it
-  constant : (y : List E) → p % 2 ≡ 1 → Divided none join p y (stepped join p w M) → join_below none join p (λ i. get_or y i none) ≡ stepped join p w M 0
+  constant : (y : List E) → p % 2 ≡ 1 → Divided none join p 0 y (stepped join p w M)
+      → join_below none join p (λ i. get_or y i none) ≡ stepped join p w M 0
   constant y odd d =
       let W = stepped join p w M in
       join_same none join p (λ i. get_or y i none) (λ i. join (W i) (W 0)) d
@@ -82,11 +83,18 @@ module _ {E : Type 0} {none : E} {join : E → E → E} (laws : Laws none join) 
       (r₁, (r₂, (d₁, (a₁, (per_at p X px 0 1 _ _ (omega arith), (per_at p X px 0 0 _ _ (omega arith), (per_at p Y py 0 0 _ _ (omega arith), (per_at p Y py 0 1 _ _ (omega arith), (sym (per_mod p M pm k), (per_at p M pm 0 0 (j + g) (k + (p - (h - g))) (omega arith) ∙ sym (per_mod_add p M pm k (p - (h - g))), (per_at p M pm 0 1 _ _ (omega arith), (per_at p M pm 0 0 _ _ (omega arith), tt))))))))))))
 
   -- the middle column, from what each step of the code leaves
-  pub middle_found : (prime : PrimeFacts p) (z w₀ w m : List E) (c : E) → ((i : ℕ) → i < p → get_or z i none ≡ join (join (join (get_or r i none) (get_or r ((i + (p + f - h)) % p) none)) (get_or d ((i + f) % p) none)) (get_or a ((i + (p - h)) % p) none)) → ((t : ℕ → E) → Steps none join p (g - f) z t → Divided none join p w₀ t) → c ≡ join_below none join p (λ i. get_or w₀ i none) → ((i : ℕ) → i < p → get_or w i none ≡ join (get_or w₀ i none) c) → ((t : ℕ → E) → Steps none join p (h - g) w t → t (p - 1 - g) ≡ none → Holds none p m t) → Holds none p m M
+  pub middle_found : (prime : PrimeFacts p) (z w₀ w m : List E) (c : E)
+      → ((i : ℕ) → i < p → get_or z i none ≡ join (join
+      (join (get_or r i none) (get_or r ((i + (p + f - h)) % p) none)) (get_or d ((i + f) % p) none))
+      (get_or a ((i + (p - h)) % p) none)) → ((t : ℕ → E) → Steps none join p (g - f) z t
+      → Divided none join p 0 w₀ t) → c ≡ join_below none join p (λ i. get_or w₀ i none)
+      → ((i : ℕ) → i < p → get_or w i none ≡ join (get_or w₀ i none) c)
+      → ((t : ℕ → E) → Steps none join p (h - g) w t → t (p - 1 - g) ≡ none → Holds none p m t) → Holds none p m M
   middle_found prime z w₀ w m c hz first ce hw second =
       let W = stepped join p (h - g) M in
       let d₁ = first W (middle_steps z hz) in
-      let held = fixed laws p w₀ w c W d₁ (ce ∙ constant laws p M s.middle (h - g) (omega arith) w₀ prime.odd d₁) hw in
+      let held = fixed laws p 0 w₀ w c W d₁ (ce ∙ constant laws p M s.middle (h - g) (omega arith) w₀ prime.odd d₁) hw
+      in
       second M (stepped_steps laws p M s.middle (h - g) (omega arith) w held) s.middle_zero
 
   -- with it joined into the diagonals and antidiagonals, two unknown columns are left
@@ -103,4 +111,27 @@ module _ {E : Type 0} {none : E} {join : E → E → E} (laws : Laws none join) 
         antidiagonal = λ i low.
             ha i low ∙ ap (λ x. join x (get_or m ((i + g) % p) none)) (s.antidiagonal i low) ∙ ap (join (join (join (X (i + f)) (M (i + g))) (Y (i + h)))) (held_mod none p M s.middle m hm pos (i + g))
             ∙ solve laws (X (i + f) ∷ M (i + g) ∷ Y (i + h) ∷ []) (((v 0 ⊕ v 1) ⊕ v 2) ⊕ v 1) (v 0 ⊕ v 2) tt;
+      }
+
+  -- and the same with it joined into the rows and the diagonals
+  pub rows_left : (m r' d' : List E) → Holds none p m M
+      → ((i : ℕ) → i < p → get_or r' i none ≡ join (get_or r i none) (get_or m i none))
+      → ((i : ℕ) → i < p → get_or d' i none ≡ join (get_or d i none) (get_or m ((i + (p - g)) % p) none))
+      → RowPairSums none join p f h r' d' X Y
+  rows_left m r' d' hm hr hd =
+      let pos : 0 < p = omega arith in
+      record {
+        first = s.first;
+        last = s.last;
+        last_zero = s.last_zero;
+        row = λ i low.
+            hr i low ∙ ap (λ x. join x (get_or m i none)) (s.row i low) ∙ ap (join (join (join (X i) (M i)) (Y i)))
+            (hm i low)
+            ∙ solve laws (X i ∷ M i ∷ Y i ∷ []) (((v 0 ⊕ v 1) ⊕ v 2) ⊕ v 1) (v 0 ⊕ v 2) tt;
+        diagonal = λ i low.
+            hd i low ∙ ap (λ x. join x (get_or m ((i + (p - g)) % p) none)) (s.diagonal i low) ∙ ap
+            (join (join (join (X (i + (p - f))) (M (i + (p - g)))) (Y (i + (p - h)))))
+            (held_mod none p M s.middle m hm pos (i + (p - g)))
+            ∙ solve laws (X (i + (p - f)) ∷ M (i + (p - g)) ∷ Y (i + (p - h)) ∷ []) (((v 0 ⊕ v 1) ⊕ v 2) ⊕ v 1)
+            (v 0 ⊕ v 2) tt;
       }

@@ -4,9 +4,9 @@ use native.Mathlib.Nat.{add-mod-mod}
 use Rattle.tip_element.specs.Laws.{Laws}
 use Rattle.tip_code.proofs.Remainders.{wrap_low, wrap_high}
 use Rattle.tip_algebra.specs.Cyclic.{Per, Holds, Steps}
-use Rattle.tip_algebra.specs.Unknown.{PairSums}
+use Rattle.tip_algebra.specs.Unknown.{PairSums, RowPairSums}
 use Rattle.tip_algebra.proofs.Cyclic.{per_at, per_mod, held_mod, held_mod_add}
-use Rattle.tip_algebra.proofs.Group.{v, ◌⊕◌, ◌≐◌, solveBy}
+use Rattle.tip_algebra.proofs.Group.{v, ◌⊕◌, ◌≐◌, solve, solveBy}
 
 -- twice a distance is no multiple of p, which is odd
 pub doubled : (p u n : ℕ) → 0 < u → u < p → p % 2 ≡ 1 → n ≡ (u + u) % p → 0 < n
@@ -63,3 +63,33 @@ module _ {E : Type 0} {none : E} {join : E → E → E} (laws : Laws none join) 
   pair_found z y x u eu hz divided hx =
       let held = divided Y (pair_steps z u eu hz) s.last_zero in
       (pair_first y x held hx, held)
+
+module _ {E : Type 0} {none : E} {join : E → E → E} (laws : Laws none join) (p f h : ℕ) (fh : f < h) (hp : h < p)
+    (r d : List E) (X Y : ℕ → E) (s : RowPairSums none join p f h r d X Y) where
+  -- a row and the diagonal that meets it in column f leave column h and itself moved by the distance
+  pub row_pair_steps : (z : List E) → ((i : ℕ) → i < p
+      → get_or z i none ≡ join (get_or r i none) (get_or d ((i + f) % p) none)) → Steps none join p (h - f) z Y
+  row_pair_steps z hz i low =
+      let k = i + (h - f) in
+      let pos : 0 < p = omega arith in
+      let R = λ (m : ℕ). join (X m) (Y m) in
+      let D = λ (m : ℕ). join (X (m + (p - f))) (Y (m + (p - h))) in
+      let px = s.first in
+      let py = s.last in
+      let rr = held_mod none p R (λ m. cc (px m, py m)) r s.row pos k in
+      let dd = held_mod_add none p D (two_per join p (p - f) (p - h) X Y px py) d s.diagonal pos k f in
+      hz (k % p) (mod-lt k pos)
+      ∙ ap (λ e. join e (get_or d ((k % p + f) % p) none)) rr ∙ ap (join (R k)) dd
+      ∙ solveBy laws
+      (X k ∷ Y k ∷ X (k + f + (p - f)) ∷ Y (k + f + (p - h)) ∷ Y (k % p) ∷ Y i ∷ [])
+      ((v 0 ⊕ v 1) ⊕ (v 2 ⊕ v 3)) (v 4 ⊕ v 5)
+      ((v 2 ≐ v 0) ∷ (v 3 ≐ v 5) ∷ (v 1 ≐ v 4) ∷ [])
+      tt
+      (per_at p X px 0 1 _ _ (omega arith), (per_at p Y py 0 1 _ _ (omega arith), (sym (per_mod p Y py k), tt)))
+
+  -- column f, where column h is known
+  pub row_pair_first : (y x : List E) → Holds none p y Y
+      → ((i : ℕ) → i < p → get_or x i none ≡ join (get_or r i none) (get_or y i none)) → Holds none p x X
+  row_pair_first y x hy hx i low =
+      hx i low ∙ ap (λ e. join e (get_or y i none)) (s.row i low) ∙ ap (join (join (X i) (Y i))) (hy i low)
+      ∙ solve laws (X i ∷ Y i ∷ []) ((v 0 ⊕ v 1) ⊕ v 1) (v 0) tt

@@ -7,7 +7,8 @@ use Rattle.tip_element.specs.Laws.{Laws}
 use Rattle.tip_element.specs.Counts.{join_below}
 use Rattle.tip_element.proofs.Joins.{join_same, right}
 use Rattle.tip_code.specs.Primes.{PrimeFacts}
-use Rattle.tip_code.specs.Encoding.{datum, Encoded}
+use Rattle.tip_code.specs.Encoding.{datum, line_join, chain_join, Encoded}
+use Rattle.tip_code.specs.declared.chain.Direction.TheVariants.{Row, Diagonal, Antidiagonal}
 use Rattle.tip_code.proofs.Cells.{Data, data_facts, data_not}
 use Rattle.tip_code.proofs.Data.{datum_same, datum_out}
 use Rattle.tip_algebra.specs.Cyclic.{Per, opposite}
@@ -150,46 +151,79 @@ module _ {E : Type 0} {none : E} {join : E → E → E} (laws : Laws none join) 
   pub sum_last : (p : ℕ) (f : ℕ → E) → 0 < p → join_below none join p f ≡ join (join_below none join (p - 1) f) (f (p - 1))
   sum_last p f pos = let e : p ≡ suc (p - 1) = omega arith in ap (λ n. join_below none join n f) e
 
-  -- columns that join to nothing along every line, however shifted, do so over a whole turn
-  turn_none : (p : ℕ) (W : ℕ → ℕ → E) (s : ℕ → ℕ) → ((c : ℕ) → Per p (W c)) → ((i : ℕ) → i < p → join_below none join p (λ c. W c (i + s c)) ≡ none) → join_below none join p (λ i. join_below none join p (λ c. W c i)) ≡ none
-  turn_none p W s per h =
-      sum_swap laws p p (λ i c. W c i)
-      ∙ join_same none join p _ _ (λ c _. sym (sum_shift laws p (s c) (W c) (per c)))
-      ∙ sum_swap laws p p (λ c i. W c (i + s c))
-      ∙ sum_zero laws p _ h
+  -- over a whole turn it does not matter how each column is shifted
+  pub turn_same : (p : ℕ) (W : ℕ → ℕ → E) (s : ℕ → ℕ) → ((c : ℕ) → Per p (W c))
+      → join_below none join p (λ i. join_below none join p (λ c. W c (i + s c)))
+      ≡ join_below none join p (λ i. join_below none join p (λ c. W c i))
+  turn_same p W s per =
+      sum_swap laws p p (λ i c. W c (i + s c))
+      ∙ join_same none join p _ _ (λ c _. sum_shift laws p (s c) (W c) (per c))
+      ∙ sum_swap laws p p (λ c i. W c i)
 
-module _ {E : Type 0} {none : E} {join : E → E → E} (laws : Laws none join) (p : ℕ) (prime : PrimeFacts p) (X : ℕ → ℕ → E) (x : Encoded none join p X) where
-  pub rule_diagonal : (i : ℕ) → i < p → join_below none join p (λ c. unfolded none p X c (i + (p - c))) ≡ none
-  rule_diagonal i h =
-      ⊎_elim
-      (λ (t : i ≡ p - 1). sum_zero laws p _ (λ c l. per_at p (unfolded none p X c) (unfolded_per none p X c) 0 1 (i + (p - c)) (p - 1 - c) (omega arith) ∙ unfolded_zero none p X c l))
-      (λ (t : i ≡ p - 1 → ⊥).
+  -- so columns that join to nothing along every line do so over a whole turn
+  turn_none : (p : ℕ) (W : ℕ → ℕ → E) (s : ℕ → ℕ) → ((c : ℕ) → Per p (W c)) → ((i : ℕ) → i < p → join_below none join p (λ c. W c (i + s c)) ≡ none) → join_below none join p (λ i. join_below none join p (λ c. W c i)) ≡ none
+  turn_none p W s per h = sym (turn_same p W s per) ∙ sum_zero laws p _ h
+
+module _ {E : Type 0} {none : E} {join : E → E → E} (laws : Laws none join) (p : ℕ) (prime : PrimeFacts p)
+    (X : ℕ → ℕ → E) where
+  pub along_diagonal : (i : ℕ) → i < p - 1 → join_below none join p (λ c. unfolded none p X c (i + (p - c)))
+      ≡ chain_join none join p X Diagonal i
+  along_diagonal i h =
       let top : (i + (p - (i + 1))) % p ≡ p - 1 = mod_at p 0 0 (i + (p - (i + 1))) (p - 1) (omega arith) (omega arith) in
       let parity : unfolded none p X (i + 1) (i + (p - (i + 1))) ≡ X i (i + 1) =
       unfolded_top none p X (i + 1) (i + (p - (i + 1))) top ∙ grind (arith, nat_tests) in
       sum_other laws p (i + 1) _ (λ c. datum none p X ((i + (p - c)) % p) c) (omega arith)
       (datum_parity none p X ((i + (p - (i + 1))) % p) (i + 1) (λ d. omega (arith, d.row)))
       (λ c l n. unfolded_off none p X c (i + (p - c)) (diagonal_apart p i c (omega arith) l n))
-      ∙ ap (join (unfolded none p X (i + 1) (i + (p - (i + 1))))) (sym (x.diagonal i (omega arith)))
-      ∙ ap (λ y. join y (X i (i + 1))) parity ∙ laws.cancel (X i (i + 1)))
+      ∙ ap (λ y. join y (line_join none join p X Diagonal i)) parity
+
+  pub along_last_diagonal : join_below none join p (λ c. unfolded none p X c (p - 1 + (p - c))) ≡ none
+  along_last_diagonal =
+      sum_zero laws p _
+      (λ c l. per_at p (unfolded none p X c) (unfolded_per none p X c) 0 1 (p - 1 + (p - c)) (p - 1 - c)
+      (omega arith) ∙ unfolded_zero none p X c l)
+
+  pub along_antidiagonal : (i : ℕ) → i < p - 1 → join_below none join p (λ c. unfolded_anti none join p X c (i + c))
+      ≡ chain_join none join p X Antidiagonal i
+  along_antidiagonal i h =
+      let k = p - 1 - i in
+      let top : (i + k) % p ≡ p - 1 = mod_at p 0 0 (i + k) (p - 1) (omega arith) (omega arith) in
+      sum_other laws p k _ (λ c. datum none p X ((i + c) % p) c) (omega arith)
+      (datum_parity none p X ((i + k) % p) k (λ d. omega (arith, d.row)))
+      (λ c l n. let off = anti_apart p i c (omega arith) l n in anti_off laws p X c
+      (i + c) off ∙ unfolded_off none p X c (i + c) off)
+      ∙ ap (λ y. join y (line_join none join p X Antidiagonal i))
+      (anti_top laws p X k (i + k) top (omega arith) ∙ ap (λ r. X r k) (omega arith))
+
+  pub along_last_antidiagonal : join_below none join p (λ c. unfolded_anti none join p X c (p - 1 + c)) ≡ none
+  along_last_antidiagonal = sum_zero laws p _ (λ c l. anti_zero laws p X c l)
+
+  pub along_row : (i : ℕ) → i < p - 1 → join_below none join p (λ c. unfolded none p X c i)
+      ≡ line_join none join p X Row i
+  along_row i h = join_same none join p _ _ (λ c _. unfolded_at none p X c i h)
+
+module _ {E : Type 0} {none : E} {join : E → E → E} (laws : Laws none join) (p : ℕ) (prime : PrimeFacts p)
+    (X : ℕ → ℕ → E) (x : Encoded none join p X) where
+  pub rule_diagonal : (i : ℕ) → i < p → join_below none join p (λ c. unfolded none p X c (i + (p - c))) ≡ none
+  rule_diagonal i h =
+      ⊎_elim
+      (λ (t : i ≡ p - 1). rw t (along_last_diagonal laws p prime X))
+      (λ (t : i ≡ p - 1 → ⊥).
+      along_diagonal laws p prime X i (omega arith) ∙ ap (join (X i (i + 1)))
+      (sym (x.diagonal i (omega arith))) ∙ laws.cancel (X i (i + 1)))
       (cases_eq i (p - 1))
 
   pub rule_antidiagonal : (i : ℕ) → i < p → join_below none join p (λ c. unfolded_anti none join p X c (i + c)) ≡ none
   rule_antidiagonal i h =
       ⊎_elim
-      (λ (t : i ≡ p - 1). sum_zero laws p _ (λ c l. ap (λ n. unfolded_anti none join p X c (n + c)) t ∙ anti_zero laws p X c l))
+      (λ (t : i ≡ p - 1). rw t (along_last_antidiagonal laws p prime X))
       (λ (t : i ≡ p - 1 → ⊥).
-      let k = p - 1 - i in
-      let top : (i + k) % p ≡ p - 1 = mod_at p 0 0 (i + k) (p - 1) (omega arith) (omega arith) in
-      sum_other laws p k _ (λ c. datum none p X ((i + c) % p) c) (omega arith)
-      (datum_parity none p X ((i + k) % p) k (λ d. omega (arith, d.row)))
-      (λ c l n. let off = anti_apart p i c h l n in anti_off laws p X c (i + c) off ∙ unfolded_off none p X c (i + c) off)
-      ∙ ap (join (unfolded_anti none join p X k (i + k))) (sym (x.antidiagonal i (omega arith)))
-      ∙ ap (λ y. join y (X i k)) (anti_top laws p X k (i + k) top (omega arith) ∙ ap (λ r. X r k) (omega arith)) ∙ laws.cancel (X i k))
+      along_antidiagonal laws p prime X i (omega arith)
+      ∙ ap (join (X i (p - 1 - i))) (sym (x.antidiagonal i (omega arith))) ∙ laws.cancel (X i (p - 1 - i)))
       (cases_eq i (p - 1))
 
   pub rule_row : (i : ℕ) → i < p - 1 → join_below none join p (λ c. unfolded none p X c i) ≡ X i p
-  rule_row i h = join_same none join p _ _ (λ c _. unfolded_at none p X c i h) ∙ sym (x.row i h)
+  rule_row i h = along_row laws p prime X i h ∙ sym (x.row i h)
 
   -- the diagonals over a whole turn, with the rows that exist apart
   plain_turn : join (join_below none join (p - 1) (λ i. X i p)) (join_below none join p (λ c. unfolded none p X c (p - 1))) ≡ none

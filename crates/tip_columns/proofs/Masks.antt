@@ -18,7 +18,7 @@ pub bit_more : (x y k n : ℕ) → y ≡ 2 ^ k → bit (bit_or x y) n ≡ (eqb n
 bit_more x y k n e = ap (λ z. bit (bit_or x z) n) e ∙ bit_of_or x (2 ^ k) n ∙ ap (λ b. b || bit x n) (bit_power k n)
 
 -- The bits from k on are those of the quotient by 2 ^ k.
-bit_from : (x k n : ℕ) → bit (x / 2 ^ k) n ≡ bit x (k + n)
+pub bit_from : (x k n : ℕ) → bit (x / 2 ^ k) n ≡ bit x (k + n)
 bit_from x k n = ap (λ z. eqb (z % 2) 1) (shr-shr x k n)
 
 -- A word of 64 bits has no bit set past `last` exactly where that quotient is 0.

@@ -1,28 +1,31 @@
 -- Which columns are solved for.
-use Rattle.std.specs.Prelude.{◌≡◌, ℕ, ◌<◌, Bool, true, false, ◌||◌, ◌==◌}
+use Rattle.std.specs.Prelude.{◌≡◌, ℕ, ◌<◌, Bool, false, ◌||◌, ◌==◌}
 use Rattle.tip_columns.specs.Sets.{in_set}
 use Rattle.tip_columns.specs.declared.Columns.{Columns}
-use Rattle.tip_solve.specs.declared.sought.Pair.{Pair}
 use Rattle.tip_solve.specs.declared.sought.Sought.{Sought}
-use Rattle.tip_solve.specs.declared.sought.Sought.TheVariants.{Two, Three}
-use Rattle.tip_solve.specs.declared.sought.Triple.{Triple}
+use Rattle.tip_solve.specs.declared.sought.Sought.TheVariants.{Nothing, One, Two, Three}
 
 -- The columns that are solved for.
 abbrev pub sought : Sought → ℕ → Bool
+sought Nothing c = false
+sought (One f) c = c == f
 sought (Two t) c = c == t.first || c == t.last
 sought (Three t) c = c == t.first || (c == t.middle || c == t.last)
 
--- Two columns below p in ascending order, among which all lost ones below p are.
-pub record SeeksTwo (p : ℕ) (lost : Columns) (t : Pair) : Type 0 where
-  pub below : t.last < p
-  pub all : (c : ℕ) → c < p → in_set lost c ≡ true → sought (Two t) c ≡ true
+-- They are below p.
+abbrev pub SoughtBelow : ℕ → Sought → Type 0
+SoughtBelow p Nothing = Unit {0}
+SoughtBelow p (One f) = f < p
+SoughtBelow p (Two t) = t.last < p
+SoughtBelow p (Three t) = t.last < p
 
--- Three such columns; the row parities are not lost.
-pub record SeeksThree (p : ℕ) (lost : Columns) (t : Triple) : Type 0 where
-  pub below : t.last < p
-  pub all : (c : ℕ) → c < p → in_set lost c ≡ true → sought (Three t) c ≡ true
-  pub rows : in_set lost p ≡ false
+-- Where three are solved for, the row parities are not lost.
+abbrev pub SoughtRows : ℕ → Columns → Sought → Type 0
+SoughtRows p lost (Three t) = in_set lost p ≡ false
+SoughtRows p lost s = Unit {0}
 
-abbrev pub Seeks : ℕ → Columns → Sought → Type 0
-Seeks p lost (Two t) = SeeksTwo p lost t
-Seeks p lost (Three t) = SeeksThree p lost t
+-- The columns below p that are lost.
+pub record Seeks (p : ℕ) (lost : Columns) (s : Sought) : Type 0 where
+  pub below : SoughtBelow p s
+  pub all : (c : ℕ) → c < p → in_set lost c ≡ sought s c
+  pub rows : SoughtRows p lost s

@@ -16,8 +16,8 @@ work_in p = 4 * (p + 1) * (p + 1)
 abbrev pub room_in : ℕ → ℕ
 room_in p = (p + 1) * (3 * p + 5)
 
--- When solving is refused: the stripe buffer has another length than is needed; the room has fewer elements than `least`; a
--- lost column is above p; more than three are lost.
+-- When solving is refused: the stripe buffer has another length than is needed; the room has fewer elements than
+-- `least`; a lost column is above p; more than three are lost.
 pub data SolveStop (p cells room least : ℕ) (lost : Columns) : Stop → Type 0 where
   cells_length : (cells ≢ cells_in p) → SolveStop p cells room least lost stop.Length
   too_short : room < least → SolveStop p cells room least lost stop.Work
@@ -34,8 +34,8 @@ pub record Fitting (p cells room least : ℕ) (lost : Columns) : Type 0 where
 abbrev pub Agree : {E : Type 0} → ℕ → (ℕ → Bool) → (ℕ → ℕ → E) → (ℕ → ℕ → E) → Type 0
 Agree p lost X Y = (r c : ℕ) → r < p - 1 → c ≤ p → lost c ≡ false → X r c ≡ Y r c
 
--- Y is X with its lost columns solved: kept columns stay whatever they hold, and where they are those of an encoded stripe,
--- Y is that stripe. (Where they are those of none, the lost columns may hold anything.)
+-- Y is X with its lost columns solved: kept columns stay whatever they hold, and where they are those of an encoded
+-- stripe, Y is that stripe. (Where they are those of none, the lost columns may hold anything.)
 pub record Solved {E : Type 0} (none : E) (join : E → E → E) (p : ℕ) (lost : ℕ → Bool) (X Y : ℕ → ℕ → E) : Type 0 where
   pub kept : Agree p lost X Y
   pub whole : (W : ℕ → ℕ → E) → Encoded none join p W → Agree p lost X W → (r c : ℕ) → r < p - 1 → c ≤ p → Y r c ≡ W r c

@@ -3,9 +3,9 @@
 
 mod buffer;
 mod recover;
+mod runs;
 pub mod solve;
 mod sought;
 mod sums;
 mod system;
-mod turned;
 mod walk;

@@ -1,26 +1,33 @@
-// The lost columns of a stripe, found and written back. Two columns come with the row parities and three without, so the two ways
-// share their steps and are not one function of a number. Single runs are lent as slices: a type for a run of p elements would have
-// each function that fills one promise again that its p stays. Each step asks for the room that it cuts, and so each for another length.
-ghost use Rattle.std.specs.Prelude.{◌≡◌, ℕ, ◌+◌, ◌*◌, ◌<◌, ◌≤◌, ◌||◌, List, length, ◌==◌};
+// The lost columns of a stripe, found and written back. They are set to zero first: what a chain then joins to is
+// what its lost cells do. Each number of lost columns has a way of its own, and two have one with the row parities
+// and one without.
+ghost use Rattle.std.specs.Prelude.{◌≡◌, ℕ, ◌+◌, ◌-◌, ◌*◌, ◌<◌, ◌≤◌, true, false, List, length, slice_index_or};
 ghost use Rattle.tip_code.specs.Buffer.{cells_of, SameBuffer};
-ghost use Rattle.tip_code.specs.Encoding.{Encoded};
+ghost use Rattle.tip_code.specs.Encoding.{line_join, Encoded};
 ghost use Rattle.tip_code.specs.Stripe.{stripe_of};
+ghost use Rattle.tip_code.specs.declared.chain.Direction.TheVariants.{Row};
 ghost use Rattle.tip_algebra.specs.Known.{KnownSums, RowSums};
 ghost use Rattle.tip_algebra.specs.Unfolded.{excess};
 ghost use Rattle.tip_columns.specs.Sets.{in_set, size};
-ghost use Rattle.tip_solve.specs.Seeking.{SeeksTwo, SeeksThree};
-ghost use Rattle.tip_solve.specs.Finding.{FoundTwo, FoundThree};
+ghost use Rattle.tip_algebra.specs.Cyclic.{Twice};
+ghost use Rattle.tip_solve.specs.Finding.{ListsColumn, FoundColumns, SolvedBelow};
+ghost use Rattle.tip_solve.specs.Seeking.{sought};
 ghost use Rattle.tip_solve.specs.Solving.{Solved};
+ghost use Rattle.tip_solve.specs.Writing.{Elsewhere};
+ghost use Rattle.tip_solve.specs.declared.sought.Sought.TheVariants.{One, Two, Three};
 
-use super::buffer::write_lost;
+use super::buffer::{clear_column, set_antidiagonal, write_column, write_unfolded};
+use super::runs::repeat;
 use super::sought::{Pair, Sought, Triple};
-use super::sums::{Sums, add_row_parities, fold_back, join_at};
-use super::system::{find_pair, find_three};
+use super::sums::{
+    Sums, fold_back, join_at, read_chains, read_crossed, read_diagonals, read_three, read_two,
+};
+use super::system::{find_first, find_first_crossed, find_last, find_last_crossed, find_outer};
+use tip_code::chain::Direction;
 use tip_code::prime::Prime;
 use tip_code::stripe::Stripe;
 use tip_columns::Columns;
 use tip_element::element::Element;
-use tip_element::slices::join_each;
 
 /// Cuts a run of p elements off the room, and gives it with the rest.
 fn next_run<E: Element>(prime: Prime, room: &mut [E]) -> (&mut [E], &mut [E])
@@ -31,168 +38,318 @@ fn next_run<E: Element>(prime: Prime, room: &mut [E]) -> (&mut [E], &mut [E])
     room.split_at_mut(prime.number)
 }
 
-/// Cuts three runs of p elements off the room, and gives them with the rest.
-fn three_runs<E: Element>(prime: Prime, room: &mut [E]) -> (&mut [E], &mut [E], &mut [E], &mut [E])
+/// Cuts a run of two turns off the room, and gives it with the rest.
+fn next_turns<E: Element>(prime: Prime, room: &mut [E]) -> (&mut [E], &mut [E])
+    requires { 2 * prime.number ≤ length room.old }
+    ensures run { length result.0.now ≡ prime.number + prime.number }
+    ensures rest { length result.1.now + 2 * prime.number ≡ length room.old }
+{
+    room.split_at_mut(2 * prime.number)
+}
+
+/// Cuts three runs of p elements off the room.
+fn three_runs<E: Element>(prime: Prime, room: &mut [E]) -> (&mut [E], &mut [E], &mut [E])
     requires { 3 * prime.number ≤ length room.old }
     ensures first { length result.0.now ≡ prime.number }
     ensures second { length result.1.now ≡ prime.number }
-    ensures third { length result.2.now ≡ prime.number }
-    ensures rest { length result.3.now + 3 * prime.number ≡ length room.old }
+    ensures third { length result.2.now + 2 * prime.number ≡ length room.old }
 {
     let (a, rest) = next_run(prime, room);
     let (b, rest) = next_run(prime, rest);
-    let (c, rest) = next_run(prime, rest);
-    (a, b, c, rest)
+    (a, b, rest)
 }
 
-/// Of two unknown columns, the join of the two parities that stand in each. Joined with its mirror image a column shows it at the
-/// last index, whichever parities are lost.
-fn parities_of_two<E: Element>(at: Pair, sums: &Sums<'_, E>, mut room: &mut [E]) -> (E, E)
-    requires { (at.last < sums.now.prime.number) × (6 * sums.now.prime.number ≤ length room.old) }
-    ensures { (X : ℕ → ℕ → E) (r : List E) (e : E) → Encoded E.zero E.join sums.now.prime.number X → KnownSums E.zero E.join sums.now.prime.number (λ c. (c == at.first) || c == at.last) X sums.now.diagonals.now sums.now.antidiagonals.now r e → (result.0 ≡ excess E.zero E.join sums.now.prime.number X at.first) × (result.1 ≡ excess E.zero E.join sums.now.prime.number X at.last) }
+/// Finds one column from the diagonals, each of which meets it once.
+#[inline(never)]
+fn recover_one<E: Element>(column: usize, stripe: &mut Stripe<'_, E>, diagonals: &mut [E])
+    requires { (column < stripe.old.prime.number) × (length diagonals.old
+        ≡ stripe.old.prime.number + stripe.old.prime.number) }
+    ensures same { SameBuffer stripe.old stripe.new }
+    ensures found { FoundColumns E.zero E.join stripe.old.prime.number (One column) false
+        (cells_of E.zero stripe.old) (stripe_of E.zero stripe.old.prime.number stripe.new.cells.now) }
 {
-    let prime = sums.prime;
-    let last = prime.number - 1;
-    let mut folded = Sums::within(prime, &mut room);
-    let (x, y, joins, _rest) = three_runs(prime, room);
-    sums.fold_lines_into(&mut folded);
-    find_pair(at, &folded, joins, x, y);
-    (x[last], y[last])
+    let prime = stripe.prime;
+    clear_column(prime, column, stripe.cells);
+    read_diagonals(stripe, diagonals);
+    write_unfolded(prime, column, &diagonals[column..], stripe.cells);
+    set_antidiagonal(column, stripe);
 }
 
-/// Finds the cells of two columns and the row parities, which `x`, `y` and the sums along rows then hold, from all other columns.
-fn cells_of_two<E: Element>(
-    at: Pair,
-    stripe: &Stripe<'_, E>,
-    sums: &mut Sums<'_, E>,
-    x: &mut [E],
-    y: &mut [E],
-    room: &mut [E],
-)
-    requires prime { sums.old.prime.number ≡ stripe.now.prime.number }
-    requires below { at.last < stripe.now.prime.number }
-    requires sized { (length x.old ≡ stripe.now.prime.number) × (length y.old ≡ stripe.now.prime.number) × (7 * stripe.now.prime.number ≤ length room.old) }
-    ensures prime { sums.new.prime.number ≡ stripe.now.prime.number }
-    ensures found { FoundTwo E.zero E.join stripe.now.prime.number at (cells_of E.zero stripe.now) x.new y.new sums.new.rows.now }
-{
-    let p = stripe.prime.number;
-    let (joins, rest) = next_run(stripe.prime, room);
-    sums.gather(stripe, Sought::Two(at), joins);
-    let (of_first, of_last) = parities_of_two(at, sums, rest);
-    join_at(sums.antidiagonals, p - 1 - at.first, of_first);
-    join_at(sums.antidiagonals, p - 1 - at.last, of_last);
-    find_pair(at, sums, joins, x, y);
-    join_each(sums.rows, x);
-    join_each(sums.rows, y);
-    fold_back(stripe.prime, at.first, x, of_first);
-    fold_back(stripe.prime, at.last, y, of_last);
-}
-
-/// Finds two columns and the row parities, and writes back what of these is lost.
+/// Finds two columns from the rows and the diagonals.
+#[inline(never)]
 fn recover_two<E: Element>(
     at: Pair,
-    lost: Columns,
     stripe: &mut Stripe<'_, E>,
     sums: &mut Sums<'_, E>,
     room: &mut [E],
 )
     requires prime { sums.old.prime.number ≡ stripe.old.prime.number }
-    requires seeks { SeeksTwo stripe.old.prime.number lost at }
-    requires long { 9 * stripe.old.prime.number ≤ length room.old }
+    requires room { (at.last < stripe.old.prime.number) × (3 * stripe.old.prime.number ≤ length room.old) }
     ensures same { SameBuffer stripe.old stripe.new }
-    ensures solved { Solved E.zero E.join stripe.old.prime.number (in_set lost) (cells_of E.zero stripe.old) (stripe_of E.zero stripe.old.prime.number stripe.new.cells.now) }
+    ensures found { FoundColumns E.zero E.join stripe.old.prime.number (Two at) true
+        (cells_of E.zero stripe.old) (stripe_of E.zero stripe.old.prime.number stripe.new.cells.now) }
 {
     let prime = stripe.prime;
-    let (x, rest) = next_run(prime, room);
-    let (y, rest) = next_run(prime, rest);
-    cells_of_two(at, stripe, sums, x, y, rest);
-    write_lost(lost, at.first, x, stripe);
-    write_lost(lost, at.last, y, stripe);
-    write_lost(lost, prime.number, sums.rows, stripe);
+    let (joins, first, last) = three_runs(prime, room);
+    clear_column(prime, at.first, stripe.cells);
+    clear_column(prime, at.last, stripe.cells);
+    read_two(stripe, sums.rows, sums.diagonals);
+    find_last(at, sums, joins, last);
+    find_first(sums, last, first);
+    write_unfolded(prime, at.first, first, stripe.cells);
+    write_unfolded(prime, at.last, last, stripe.cells);
+    set_antidiagonal(at.first, stripe);
+    set_antidiagonal(at.last, stripe);
+}
+
+/// Of two unknown columns, the join of the two parities that stand in each; `all` is that of all known columns.
+/// Joined with its mirror image a column shows it at the last index, whichever parities are lost.
+fn parities_of_two<E: Element>(at: Pair, all: E, sums: &Sums<'_, E>, mut room: &mut [E]) -> (E, E)
+    requires { (at.last < sums.now.prime.number) × (9 * sums.now.prime.number ≤ length room.old) }
+    ensures { (X : ℕ → ℕ → E) (r : List E) → Encoded E.zero E.join sums.now.prime.number X
+        → KnownSums E.zero E.join sums.now.prime.number
+        (sought (Two at)) X sums.now.diagonals.now sums.now.antidiagonals.now r all
+        → (result.0 ≡ excess E.zero E.join sums.now.prime.number X at.first)
+        × (result.1 ≡ excess E.zero E.join sums.now.prime.number X at.last) }
+{
+    let prime = sums.prime;
+    let mut folded = Sums::within(prime, &mut room);
+    let (joins, last, _rest) = three_runs(prime, room);
+    sums.fold_lines_into(&mut folded);
+    find_last_crossed(at, &folded, joins, last);
+    let of_last = last[prime.number - 1];
+    (all.join(of_last), of_last)
+}
+
+/// Finds two columns, which `first` and `last` then hold, from what the diagonals and the antidiagonals join to.
+fn cells_of_two<E: Element>(
+    at: Pair,
+    all: E,
+    sums: &mut Sums<'_, E>,
+    first: &mut [E],
+    last: &mut [E],
+    room: &mut [E],
+)
+    requires below { at.last < sums.old.prime.number }
+    requires sized { (sums.old.prime.number ≤ length first.old)
+        × (length last.old ≡ sums.old.prime.number + sums.old.prime.number)
+        × (9 * sums.old.prime.number ≤ length room.old) }
+    requires twice { Twice E.zero sums.old.prime.number sums.old.diagonals.now }
+    ensures { (X : ℕ → ℕ → E) (r : List E) → Encoded E.zero E.join sums.old.prime.number X
+        → KnownSums E.zero E.join sums.old.prime.number
+        (sought (Two at)) X sums.old.diagonals.now sums.old.antidiagonals.now r all
+        → ListsColumn E.zero sums.old.prime.number X at.first first.new
+        × ListsColumn E.zero sums.old.prime.number X at.last last.new }
+{
+    let prime = sums.prime;
+    let (of_first, of_last) = parities_of_two(at, all, sums, room);
+    join_at(sums.antidiagonals, prime.number - 1 - at.first, of_first);
+    join_at(sums.antidiagonals, prime.number - 1 - at.last, of_last);
+    repeat(prime, sums.antidiagonals);
+    find_last_crossed(at, sums, room, last);
+    repeat(prime, last);
+    find_first_crossed(at, sums, last, first);
+    fold_back(prime, at.first, first, of_first);
+    fold_back(prime, at.last, last, of_last);
+}
+
+/// Finds two columns from the diagonals and the antidiagonals, where the row parities are lost too.
+#[inline(never)]
+fn recover_crossed<E: Element>(
+    at: Pair,
+    stripe: &mut Stripe<'_, E>,
+    sums: &mut Sums<'_, E>,
+    room: &mut [E],
+)
+    requires prime { sums.old.prime.number ≡ stripe.old.prime.number }
+    requires room { (at.last < stripe.old.prime.number) × (12 * stripe.old.prime.number ≤ length room.old) }
+    ensures same { SameBuffer stripe.old stripe.new }
+    ensures found { FoundColumns E.zero E.join stripe.old.prime.number (Two at) false
+        (cells_of E.zero stripe.old) (stripe_of E.zero stripe.old.prime.number stripe.new.cells.now) }
+{
+    let prime = stripe.prime;
+    let (first, room) = next_run(prime, room);
+    let (last, room) = next_turns(prime, room);
+    clear_column(prime, at.first, stripe.cells);
+    clear_column(prime, at.last, stripe.cells);
+    let all = read_crossed(stripe, sums.diagonals, sums.antidiagonals);
+    cells_of_two(at, all, sums, first, last, room);
+    write_column(prime, at.first, first, stripe.cells);
+    write_column(prime, at.last, last, stripe.cells);
 }
 
 /// Of three unknown columns, the join of the two parities that stand in each; `all` is that of all known columns.
+/// `joins`, `middle` and `last` are room on the way too.
 fn parities_of_three<E: Element>(
     at: Triple,
     all: E,
     sums: &Sums<'_, E>,
     joins: &mut [E],
+    middle: &mut [E],
+    last: &mut [E],
     mut room: &mut [E],
 ) -> (E, E, E)
-    requires { (at.last < sums.now.prime.number) × (length joins.old ≡ sums.now.prime.number) × (6 * sums.now.prime.number ≤ length room.old) }
-    ensures { (X : ℕ → ℕ → E) (r : List E) → Encoded E.zero E.join sums.now.prime.number X → KnownSums E.zero E.join sums.now.prime.number (λ c. (c == at.first) || (c == at.middle || c == at.last)) X sums.now.diagonals.now sums.now.antidiagonals.now r all → RowSums E.zero E.join sums.now.prime.number X r sums.now.rows.now → (result.0 ≡ excess E.zero E.join sums.now.prime.number X at.first) × (result.1 ≡ excess E.zero E.join sums.now.prime.number X at.middle) × (result.2 ≡ excess E.zero E.join sums.now.prime.number X at.last) }
+    requires below { at.last < sums.now.prime.number }
+    requires sized { (sums.now.prime.number ≤ length joins.old)
+        × (length middle.old ≡ sums.now.prime.number + sums.now.prime.number)
+        × (sums.now.prime.number ≤ length last.old) × (7 * sums.now.prime.number ≤ length room.old) }
+    ensures { (X : ℕ → ℕ → E) (r : List E) → Encoded E.zero E.join sums.now.prime.number X
+        → KnownSums E.zero E.join sums.now.prime.number
+        (sought (Three at)) X sums.now.diagonals.now sums.now.antidiagonals.now r all
+        → RowSums E.zero E.join sums.now.prime.number X r sums.now.rows.now
+        → (result.0 ≡ excess E.zero E.join sums.now.prime.number X at.first)
+        × (result.1 ≡ excess E.zero E.join sums.now.prime.number X at.middle)
+        × (result.2 ≡ excess E.zero E.join sums.now.prime.number X at.last) }
 {
     let prime = sums.prime;
-    let last = prime.number - 1;
     let mut folded = Sums::within(prime, &mut room);
-    let (x, m, y, _rest) = three_runs(prime, room);
+    let (steps, _room) = next_run(prime, room);
     sums.fold_into(all, &mut folded);
-    find_three(at, &mut folded, joins, x, m, y);
-    (x[last], m[last], y[last])
+    find_outer(at, &mut folded, joins, steps, middle, last);
+    let of_middle = middle[prime.number - 1];
+    let of_last = last[prime.number - 1];
+    (all.join(of_middle).join(of_last), of_middle, of_last)
 }
 
-/// Finds the cells of three columns, which `x`, `m` and `y` then hold, from all other columns.
+/// Finds three columns, which `first`, `middle` and `last` then hold, from what all chains join to.
 fn cells_of_three<E: Element>(
     at: Triple,
-    stripe: &Stripe<'_, E>,
+    all: E,
     sums: &mut Sums<'_, E>,
-    x: &mut [E],
-    m: &mut [E],
-    y: &mut [E],
+    first: &mut [E],
+    middle: &mut [E],
+    last: &mut [E],
     room: &mut [E],
 )
-    requires prime { sums.old.prime.number ≡ stripe.now.prime.number }
-    requires below { at.last < stripe.now.prime.number }
-    requires sized { (length x.old ≡ stripe.now.prime.number) × (length m.old ≡ stripe.now.prime.number) × (length y.old ≡ stripe.now.prime.number) × (7 * stripe.now.prime.number ≤ length room.old) }
-    ensures { FoundThree E.zero E.join stripe.now.prime.number at (cells_of E.zero stripe.now) x.new m.new y.new }
+    requires below { at.last < sums.old.prime.number }
+    requires sized { (sums.old.prime.number ≤ length first.old)
+        × (length middle.old ≡ sums.old.prime.number + sums.old.prime.number)
+        × (sums.old.prime.number ≤ length last.old) × (7 * sums.old.prime.number ≤ length room.old) }
+    requires twice { Twice E.zero sums.old.prime.number sums.old.rows.now
+        × Twice E.zero sums.old.prime.number sums.old.diagonals.now }
+    ensures { (X : ℕ → ℕ → E) (r : List E) → Encoded E.zero E.join sums.old.prime.number X
+        → KnownSums E.zero E.join sums.old.prime.number
+        (sought (Three at)) X sums.old.diagonals.now sums.old.antidiagonals.now r all
+        → RowSums E.zero E.join sums.old.prime.number X r sums.old.rows.now
+        → ListsColumn E.zero sums.old.prime.number X at.first first.new
+        × ListsColumn E.zero sums.old.prime.number X at.middle middle.new
+        × ListsColumn E.zero sums.old.prime.number X at.last last.new }
 {
-    let prime = stripe.prime;
-    let p = prime.number;
-    let (joins, rest) = next_run(prime, room);
-    let all = sums.gather(stripe, Sought::Three(at), joins);
-    add_row_parities(stripe, joins, sums.rows);
-    let (of_first, of_middle, of_last) = parities_of_three(at, all, sums, joins, rest);
-    join_at(sums.antidiagonals, p - 1 - at.first, of_first);
-    join_at(sums.antidiagonals, p - 1 - at.middle, of_middle);
-    join_at(sums.antidiagonals, p - 1 - at.last, of_last);
-    find_three(at, sums, joins, x, m, y);
-    fold_back(prime, at.first, x, of_first);
-    fold_back(prime, at.middle, m, of_middle);
-    fold_back(prime, at.last, y, of_last);
+    let prime = sums.prime;
+    let (of_first, of_middle, of_last) = parities_of_three(
+        at, all, sums, first, middle, last, room,
+    );
+    join_at(sums.antidiagonals, prime.number - 1 - at.first, of_first);
+    join_at(sums.antidiagonals, prime.number - 1 - at.middle, of_middle);
+    join_at(sums.antidiagonals, prime.number - 1 - at.last, of_last);
+    repeat(prime, sums.antidiagonals);
+    let (joins, steps, _room) = three_runs(prime, room);
+    find_outer(at, sums, joins, steps, middle, last);
+    find_first(sums, last, first);
+    fold_back(prime, at.first, first, of_first);
+    fold_back(prime, at.middle, middle, of_middle);
+    fold_back(prime, at.last, last, of_last);
 }
 
-/// Finds three columns, and writes back those that are lost.
+/// Finds three columns from all chains.
+#[inline(never)]
 fn recover_three<E: Element>(
     at: Triple,
+    stripe: &mut Stripe<'_, E>,
+    sums: &mut Sums<'_, E>,
+    room: &mut [E],
+)
+    requires prime { sums.old.prime.number ≡ stripe.old.prime.number }
+    requires room { (at.last < stripe.old.prime.number) × (12 * stripe.old.prime.number ≤ length room.old) }
+    ensures same { SameBuffer stripe.old stripe.new }
+    ensures found { FoundColumns E.zero E.join stripe.old.prime.number (Three at) true
+        (cells_of E.zero stripe.old) (stripe_of E.zero stripe.old.prime.number stripe.new.cells.now) }
+{
+    let prime = stripe.prime;
+    let (first, room) = next_run(prime, room);
+    let (last, room) = next_run(prime, room);
+    let (middle, room) = next_turns(prime, room);
+    clear_column(prime, at.first, stripe.cells);
+    clear_column(prime, at.middle, stripe.cells);
+    clear_column(prime, at.last, stripe.cells);
+    let all = read_three(stripe, sums.rows, sums.diagonals, sums.antidiagonals);
+    cells_of_three(at, all, sums, first, middle, last, room);
+    write_column(prime, at.first, first, stripe.cells);
+    write_column(prime, at.middle, middle, stripe.cells);
+    write_column(prime, at.last, last, stripe.cells);
+}
+
+/// Sets the row parities, from the data cells of all columns.
+fn recover_rows<E: Element>(stripe: &mut Stripe<'_, E>, run: &mut [E])
+    requires { stripe.old.prime.number ≤ length run.old }
+    ensures same { SameBuffer stripe.old stripe.new }
+    ensures elsewhere { Elsewhere stripe.old.prime.number stripe.old.prime.number
+        (cells_of E.zero stripe.old) (stripe_of E.zero stripe.old.prime.number stripe.new.cells.now) }
+    ensures here { (r : ℕ) → r < stripe.old.prime.number - 1
+        → stripe_of E.zero stripe.old.prime.number stripe.new.cells.now r stripe.old.prime.number
+        ≡ line_join E.zero E.join stripe.old.prime.number (cells_of E.zero stripe.old) Row r }
+{
+    let prime = stripe.prime;
+    clear_column(prime, prime.number, stripe.cells);
+    read_chains(stripe, Direction::Row, run);
+    write_column(prime, prime.number, run, stripe.cells);
+}
+
+/// Solves the lost columns below p, of at most three lost ones.
+fn recover_below<E: Element>(
     lost: Columns,
     stripe: &mut Stripe<'_, E>,
     sums: &mut Sums<'_, E>,
     room: &mut [E],
 )
     requires prime { sums.old.prime.number ≡ stripe.old.prime.number }
-    requires seeks { SeeksThree stripe.old.prime.number lost at }
-    requires long { 10 * stripe.old.prime.number ≤ length room.old }
+    requires room { (size lost ≤ 3) × (12 * stripe.old.prime.number ≤ length room.old) }
     ensures same { SameBuffer stripe.old stripe.new }
-    ensures solved { Solved E.zero E.join stripe.old.prime.number (in_set lost) (cells_of E.zero stripe.old) (stripe_of E.zero stripe.old.prime.number stripe.new.cells.now) }
+    ensures solved { SolvedBelow E.zero E.join stripe.old.prime.number (in_set lost)
+        (cells_of E.zero stripe.old) (stripe_of E.zero stripe.old.prime.number stripe.new.cells.now) }
 {
-    let (x, m, y, rest) = three_runs(stripe.prime, room);
-    cells_of_three(at, stripe, sums, x, m, y, rest);
-    write_lost(lost, at.first, x, stripe);
-    write_lost(lost, at.middle, m, stripe);
-    write_lost(lost, at.last, y, stripe);
+    match Sought::of(stripe.prime, lost) {
+        Sought::Nothing => {}
+        Sought::One(column) => recover_one(column, stripe, sums.diagonals),
+        Sought::Two(at) => {
+            if lost.has(stripe.prime.number) {
+                recover_crossed(at, stripe, sums, room);
+            } else {
+                recover_two(at, stripe, sums, room);
+            }
+        }
+        Sought::Three(at) => recover_three(at, stripe, sums, room),
+    }
 }
 
-/// Solves at most three lost columns. That they are so few is found once by the caller, and asked for here and by `Sought::of`: a type
-/// of such sets would be made and taken apart on the way.
-pub(crate) fn recover<E: Element>(lost: Columns, stripe: &mut Stripe<'_, E>, mut room: &mut [E])
-    requires { (size lost ≤ 3) × (13 * stripe.old.prime.number ≤ length room.old) }
+/// Solves at most three lost columns.
+fn recover_with<E: Element>(
+    lost: Columns,
+    stripe: &mut Stripe<'_, E>,
+    sums: &mut Sums<'_, E>,
+    room: &mut [E],
+)
+    requires prime { sums.old.prime.number ≡ stripe.old.prime.number }
+    requires room { (size lost ≤ 3) × (12 * stripe.old.prime.number ≤ length room.old) }
     ensures same { SameBuffer stripe.old stripe.new }
-    ensures solved { Solved E.zero E.join stripe.old.prime.number (in_set lost) (cells_of E.zero stripe.old) (stripe_of E.zero stripe.old.prime.number stripe.new.cells.now) }
+    ensures solved { Solved E.zero E.join stripe.old.prime.number (in_set lost)
+        (cells_of E.zero stripe.old) (stripe_of E.zero stripe.old.prime.number stripe.new.cells.now) }
+{
+    recover_below(lost, stripe, sums, room);
+    if lost.has(stripe.prime.number) {
+        recover_rows(stripe, room);
+    }
+}
+
+/// Solves at most three lost columns. That they are so few is found once by the caller, and asked for here and by
+/// `Sought::of`: a type of such sets would be made and taken apart on the way.
+pub(crate) fn recover<E: Element>(lost: Columns, stripe: &mut Stripe<'_, E>, mut room: &mut [E])
+    requires { (size lost ≤ 3) × (18 * stripe.old.prime.number ≤ length room.old) }
+    ensures same { SameBuffer stripe.old stripe.new }
+    ensures solved { Solved E.zero E.join stripe.old.prime.number (in_set lost)
+        (cells_of E.zero stripe.old) (stripe_of E.zero stripe.old.prime.number stripe.new.cells.now) }
 {
     let prime = stripe.prime;
     let mut sums = Sums::within(prime, &mut room);
-    match Sought::of(prime, lost) {
-        Sought::Two(at) => recover_two(at, lost, stripe, &mut sums, room),
-        Sought::Three(at) => recover_three(at, lost, stripe, &mut sums, room),
-    }
+    recover_with(lost, stripe, &mut sums, room);
 }

@@ -70,7 +70,7 @@ fn recover_few<E: Element>(
     lost: Columns,
     room: &mut [E],
 ) -> Result<(), Stop>
-    requires { (length cells.old ≡ cells_in prime.number) × (13 * prime.number ≤ length room.old) }
+    requires { (length cells.old ≡ cells_in prime.number) × (18 * prime.number ≤ length room.old) }
     ensures { MatchResult result (λ _. (size lost ≤ 3) × Solved E.zero E.join prime.number (in_set lost) (stripe_of E.zero prime.number cells.old) (stripe_of E.zero prime.number cells.new)) (λ s. (s ≡ stop.Lost) × (3 < size lost) × (cells.new ≡ cells.old)) }
 {
     if !is_few(lost) {

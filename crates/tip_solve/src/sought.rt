@@ -1,12 +1,12 @@
-// The columns that are solved for: all lost ones but that of the row parities, and others where fewer than two are lost.
+// The columns below p that are lost.
 ghost use Rattle.std.specs.Prelude.{◌≡◌, ℕ, ◌<◌, ◌≤◌, true, false, MatchOption};
 ghost use Rattle.tip_columns.specs.Sets.{in_set};
 
 use tip_code::prime::Prime;
 use tip_columns::Columns;
 
-/// Two columns, in ascending order. That they are below p is said in clauses: with a prime of its own a pair would have to be
-/// matched with the stripe and the sums that it goes with.
+/// Two columns, in ascending order. That they are below p is said in clauses: with a prime of its own a pair would
+/// have to be matched with the stripe and the sums that it goes with.
 #[derive(Clone, Copy)]
 pub(crate) struct Pair {
     pub first: usize,
@@ -24,48 +24,49 @@ pub(crate) struct Triple {
     pub ghost ascending: { middle < last },
 }
 
-/// Two or three columns.
+/// At most three columns.
 #[derive(Clone, Copy)]
 pub(crate) enum Sought {
+    Nothing,
+    One(usize),
     Two(Pair),
     Three(Triple),
 }
 
 /// The first lost column from `from` on that is below p.
 fn next_lost(lost: Columns, from: usize, prime: Prime) -> Option<usize>
-    ensures { MatchOption result ((c : ℕ) → from ≤ c → c < prime.number → in_set lost c ≡ false) (λ k. (from ≤ k) × (k < prime.number) × (in_set lost k ≡ true) × ((c : ℕ) → from ≤ c → c < k → in_set lost c ≡ false)) }
+    requires { from < 64 }
+    ensures { MatchOption result ((c : ℕ) → from ≤ c → c < prime.number → in_set lost c ≡ false)
+        (λ k. (from ≤ k) × (k < prime.number) × (in_set lost k ≡ true)
+        × ((c : ℕ) → from ≤ c → c < k → in_set lost c ≡ false)) }
 {
-    (from..prime.number).find(|column| lost.has(*column))
+    let rest = lost.0 >> from;
+    if rest == 0 {
+        return None;
+    }
+    let column = from + rest.trailing_zeros() as usize;
+    if column >= prime.number {
+        return None;
+    }
+    Some(column)
 }
 
 impl Sought {
-    ghost use Rattle.std.specs.Prelude.{◌≡◌, ◌≤◌};
+    ghost use Rattle.std.specs.Prelude.{◌≤◌};
     ghost use Rattle.tip_columns.specs.Sets.{size};
-    ghost use Rattle.tip_solve.specs.Seeking.{sought, Seeks};
+    ghost use Rattle.tip_solve.specs.Seeking.{Seeks};
 
-    /// Whether the column is solved for.
-    pub(crate) fn has(self, column: usize) -> bool
-        ensures { result ≡ sought self column }
-    {
-        match self {
-            Sought::Two(at) => (column == at.first) | (column == at.last),
-            Sought::Three(at) => {
-                (column == at.first) | ((column == at.middle) | (column == at.last))
-            }
-        }
-    }
-
-    /// Which columns to solve for, where at most three are lost. Where fewer than two below p are, columns 0 and 1 fill up.
+    /// The lost columns below p, where at most three are lost.
+    #[inline(never)]
     pub(crate) fn of(prime: Prime, lost: Columns) -> Sought
         requires { size lost ≤ 3 }
         ensures { Seeks prime.number lost result }
     {
         let Some(first) = next_lost(lost, 0, prime) else {
-            return Sought::Two(Pair { first: 0, last: 1 });
+            return Sought::Nothing;
         };
         let Some(second) = next_lost(lost, first + 1, prime) else {
-            let last = first.max(1);
-            return Sought::Two(Pair { first: 0, last });
+            return Sought::One(first);
         };
         match next_lost(lost, second + 1, prime) {
             None => Sought::Two(Pair {

@@ -1,40 +1,50 @@
-use Rattle.std.proofs.Common.{◌≡◌, ℕ, ◌-◌, ◌<◌, true, slice_index_or, inl, inr, ◌∙◌, subst, ⊎_elim, arith}
-use Rattle.std.proofs.lemmas.Bool.{cases_eq}
+use Rattle.std.proofs.Common.{◌≡◌, ℕ, ◌-◌, ◌<◌, sym, subst, arith}
+use Rattle.tip_code.specs.Encoding.{chain_join}
 use Rattle.tip_code.specs.Stripe.{stripe_of}
-use Rattle.tip_columns.specs.Sets.{in_set}
-use Rattle.tip_solve.specs.Seeking.{sought}
-use Rattle.tip_solve.specs.Writing.{Elsewhere}
-use Rattle.tip_solve.specs.declared.sought.Sought.TheVariants.{Two}
-use Rattle.tip_solve.proofs.Recovering.{sought_all, one_of_two, solved}
+use Rattle.tip_code.specs.declared.chain.Direction.TheVariants.{Antidiagonal}
+use Rattle.tip_code.proofs.Tables.{prime_facts}
+use Rattle.tip_algebra.specs.Cyclic.{Holds, Twice}
+use Rattle.tip_algebra.specs.Unknown.{RowPairSums}
+use Rattle.tip_solve.specs.Writing.{CellElsewhere}
+use Rattle.tip_solve.proofs.Recovering.{emptied_one, emptied_two, found_two}
 use Rattle.tip_solve.proofs.recover.recover_two.Goals as goal
 
-pub returns-clause-solved : goal.returns-clause-solved
-returns-clause-solved g c =
+pub find_last-requires-clause-twice : goal.find_last-requires-clause-twice
+find_last-requires-clause-twice g c =
+    subst (λ (n : ℕ). Twice g.E.Element.zero n c.read_two.new.diagonals) (sym c.requires.prime) c.read_two.ensures.twice
+
+pub returns-clause-found : goal.returns-clause-found
+returns-clause-found g c =
     let m = g.E.Element in
-    let p = c.args.stripe.now.prime.number in
+    let s = c.args.stripe.now in
+    let p = s.prime.number in
     let f = c.args.at.first in
     let h = c.args.at.last in
-    let s = c.requires.seeks in
-    let ordered = c.args.at.ordered in
-    let lost = in_set c.args.lost in
-    let one = c.write_lost in
-    let two = c.write_lost-2 in
-    let three = c.write_lost-3 in
-    let same = one.ensures.same.1 in
-    let same' = two.ensures.same.1 ∙ same in
-    let A = c.args.stripe.now.cells.now in
-    let B = one.new.stripe.cells.now in
-    let C = two.new.stripe.cells.now in
-    let D = three.new.stripe.cells.now in
-    let X = stripe_of m.zero p in
-    let y = c.cells_of_two.new.y in
-    let rows = c.cells_of_two.new.sums.rows.now in
-    solved m.zero m.join p lost f h p (X A) (X B) (X C) (X D) c.cells_of_two.new.x y rows (λ e. omega (arith, ordered)) (λ e. omega (arith, ordered, s.below)) (λ e. omega (arith, s.below)) (omega (arith, ordered, s.below)) (omega (arith, s.below))
-    one.ensures.elsewhere
-    (subst (λ (n : ℕ). Elsewhere n lost h (stripe_of m.zero n B) (stripe_of m.zero n C)) same two.ensures.elsewhere)
-    (subst (λ (n : ℕ). Elsewhere n lost p (stripe_of m.zero n C) (stripe_of m.zero n D)) same' three.ensures.elsewhere)
-    one.ensures.here
-    (subst (λ (n : ℕ). lost h ≡ true → (r : ℕ) → r < n - 1 → stripe_of m.zero n C r h ≡ slice_index_or y r m.zero) same two.ensures.here)
-    (subst (λ (n : ℕ). lost p ≡ true → (r : ℕ) → r < n - 1 → stripe_of m.zero n D r p ≡ slice_index_or rows r m.zero) same' three.ensures.here)
-    (λ k l q. ⊎_elim (λ (e : k ≡ p). inr (inr e)) (λ (e : k ≡ p → ⊥). ⊎_elim inl (λ u. inr (inl u)) (one_of_two k f h (s.all k (omega arith) q))) (cases_eq k p))
-    (λ W enc agree. c.cells_of_two.ensures.found W enc (λ k l off i b. agree i k b (omega arith) (sought_all p lost (sought (Two c.args.at)) s.all k l off)))
+    let at = stripe_of m.zero p in
+    let Z = at c.clear_column-2.new.cells in
+    let d = c.read_two.new.diagonals in
+    let r = c.read_two.new.rows in
+    let y = c.find_last.new.last in
+    let below = c.requires.room.0 in
+    let C = c.set_antidiagonal.new.stripe.cells.now in
+    let D = c.set_antidiagonal-2.new.stripe.cells.now in
+    let same = c.set_antidiagonal.ensures.same.1 in
+    found_two m.laws p (prime_facts p s.prime.listed) c.args.at below (at s.cells.now) Z
+    (at c.write_unfolded.new.cells) (at c.write_unfolded-2.new.cells) (at C) (at D)
+    (emptied_two m.zero p (at s.cells.now) f h (at c.clear_column.new.cells) Z (omega (arith, c.args.at.ordered))
+    (emptied_one m.zero p (at s.cells.now) f (at c.clear_column.new.cells) c.clear_column.ensures.elsewhere
+    c.clear_column.ensures.here)
+    c.clear_column-2.ensures.elsewhere c.clear_column-2.ensures.here)
+    d r c.find_first.new.first y c.read_two.ensures.diagonals c.read_two.ensures.rows
+    (subst (λ (n : ℕ). (U V : ℕ → g.row.E.Denot) → RowPairSums m.zero m.join n f h r d U V → Holds m.zero n y V)
+    c.requires.prime c.find_last.ensures)
+    (λ i l. c.find_first.ensures i (omega (arith, c.requires.prime)))
+    c.write_unfolded.ensures.elsewhere c.write_unfolded-2.ensures.elsewhere c.write_unfolded.ensures.here
+    c.write_unfolded-2.ensures.here
+    c.set_antidiagonal.ensures.elsewhere
+    (subst (λ (n : ℕ). CellElsewhere n (n - 1 - h) h (stripe_of m.zero n C) (stripe_of m.zero n D)) same
+    c.set_antidiagonal-2.ensures.elsewhere)
+    c.set_antidiagonal.ensures.here
+    (subst (λ (n : ℕ). 0 < h → stripe_of m.zero n D (n - 1 - h) h
+    ≡ chain_join m.zero m.join n (stripe_of m.zero n C) Antidiagonal (n - 1 - h)) same
+    c.set_antidiagonal-2.ensures.here)
