@@ -1,10 +1,11 @@
 -- Accesses, from the calls of the shelf below: v is what that means before an access, u after the pulls, and w after the call.
-use Rattle.std.proofs.Common.{◌≡◌, ℕ, Bool, true, false, List, [], ◌∷◌, Option, Some, None, Result, Ok, Err, leb, eqb, refl, sym, subst, arith}
+use Rattle.std.proofs.Common.{◌≡◌, ℕ, Bool, true, false, List, [], ◌∷◌, Option, Some, None, Result, Ok, Err, leb, eqb, map, refl, ap, sym, subst, arith}
 use Rattle.std.proofs.lemmas.Bool.Decides.{nat_tests}
-use Rattle.tip_fault.specs.Faults.{PulledAll, unsteady}
+use Rattle.tip_fault.specs.Faults.{unsteady}
 use Rattle.tip_fault.proofs.Unsteady.{fares_unsteady, kept_unsteady, within_unsteady, within_steady, turns_unsteady}
 use Rattle.tip_shelf.proofs.Strips.{kept_refl, kept-then, same_refl, fares-then, acted_out}
 use Rattle.tip_shelf.specs.Calls.{Kept, Fares, stays, drops, Turns, Acted, InRange, Loads, Reads, got, put, erased, restored, Got, Put, Erased, Restored}
+use Rattle.tip_shelf.specs.Performing.{ShelfCall, pull_call, Performed, Series}
 use Rattle.tip_shelf.specs.Meaning.{Strip, held, blank, absent, Meaning, Within}
 use Rattle.tip_shelf.specs.Service.{Pulled}
 use Rattle.tip_shelf.specs.declared.shelf.Out.{Out}
@@ -14,9 +15,9 @@ module _ {E : Type 0} where
   within_kept k h = record { stripe = omega (arith, k.stripes, h.stripe); column = omega (arith, k.prime, h.column) }
 
   -- what pulls leave of a shelf
-  record Lost (v u : Meaning E) : Type 0 where
-    kept : Kept v u
-    strip : (i c : ℕ) → Fares false (v.strip i c) (u.strip i c)
+  pub record Lost (v u : Meaning E) : Type 0 where
+    pub kept : Kept v u
+    pub strip : (i c : ℕ) → Fares false (v.strip i c) (u.strip i c)
 
   lost_pulled : {v u : Meaning E} {d : ℕ} → Pulled v u d → Lost v u
   lost_pulled {v} {u} {d} h = record { kept = h.kept; strip = λ i c. by i c (eqb (v.device i c) d) (leb d v.prime) refl refl }
@@ -32,10 +33,15 @@ module _ {E : Type 0} where
   lost_refl : {v u : Meaning E} → u ≡ v → Lost v u
   lost_refl {v} {u} e = subst (λ x. Lost v x) (sym e) (record { kept = kept_refl v; strip = λ i c. stays refl })
 
-  lost_all : (ds : List ℕ) (v u : Meaning E) → PulledAll ds v u → Lost v u
-  unfolding PulledAll
-  lost_all [] v u h = lost_refl h
-  lost_all (d ∷ ds) v u h = lost-then (lost_pulled h.1) (lost_all ds h.0 u h.2)
+  -- what pulls one after another leave
+  pub lost_pulls :
+      {S : Type 0} (meaning : S → Meaning E) (performs : S → ShelfCall E → S → Type 0) (ds : List ℕ) (s t : S) →
+      Series (Performed meaning performs) s (map pull_call ds) t →
+      Lost (meaning s) (meaning t)
+  unfolding Series
+  lost_pulls meaning performs [] s t h = lost_refl (ap meaning h)
+  lost_pulls meaning performs (d ∷ ds) s t h =
+      lost-then (lost_pulled h.1.act) (lost_pulls meaning performs ds h.0 t h.2)
 
   -- a call for a strip that dropped has to say out, and the strip stays absent
   turns_dropped : {A : Type 0} (s : Bool) (b : Strip E) (t : Option (Strip E)) (r : Result A Out) → t ≡ None → Turns s absent b t r → (b ≡ absent) × ((x : A) → r ≡ Ok x → ⊥)
@@ -78,24 +84,27 @@ module _ {E : Type 0} where
       unread blank o not = tt
       unread absent o not = tt
 
-  module _ (ds : List ℕ) (v u w : Meaning E) (pulled : PulledAll ds v u) where
-    lost : Lost v u
-    lost = lost_all ds v u pulled
-
+  module _ {v u : Meaning E} (lost : Lost v u) where
     cell_above : {i c r : ℕ} → InRange v i c r → InRange (unsteady v) i c r
     cell_above h = record { within = within_unsteady h.within; row = h.row }
 
     cell_below : {i c r : ℕ} → InRange v i c r → InRange u i c r
     cell_below h = record { within = within_kept lost.kept h.within; row = omega (arith, lost.kept.prime, h.row) }
 
+  module _ {v u w : Meaning E} (lost : Lost v u) where
     pub got_lost : (i c r : ℕ) (o : Result E Out) → InRange v i c r → Got u w i c r o → Got (unsteady v) (unsteady w) i c r o
     got_lost i c r o h a = record {
-      act = acted_lost v u w i c got o refl lost (cell_below h) (cell_above h) a.act;
-      reads = reads_lost u.steady (v.strip i c) (u.strip i c) (w.strip i c) r o (lost.strip i c) (a.act.here (cell_below h)) a.reads;
+      act = acted_lost v u w i c got o refl lost (cell_below lost h) (cell_above {u = u} lost h) a.act;
+      reads =
+          reads_lost u.steady (v.strip i c) (u.strip i c) (w.strip i c) r o
+          (lost.strip i c)
+          (a.act.here (cell_below lost h))
+          a.reads;
     }
 
     pub put_lost : {A : Type 0} (i c r : ℕ) (e : E) (o : Result A Out) → InRange v i c r → Put u w i c r e o → Put (unsteady v) (unsteady w) i c r e o
-    put_lost i c r e o h a = acted_lost v u w i c (put r e) o refl lost (cell_below h) (cell_above h) a
+    put_lost i c r e o h a =
+        acted_lost v u w i c (put r e) o refl lost (cell_below lost h) (cell_above {u = u} lost h) a
 
     pub erased_lost : {A : Type 0} (i c : ℕ) (o : Result A Out) → Within v i c → Erased u w i c o → Erased (unsteady v) (unsteady w) i c o
     erased_lost i c o h a = acted_lost v u w i c erased o refl lost (within_kept lost.kept h) (within_unsteady h) a

@@ -1,12 +1,13 @@
 -- The fault shelf: what it has, and what its calls do to that.
-use Rattle.std.specs.Prelude.{◌≡◌, ℕ, ◌+◌, ◌-◌, ◌^◌, ◌<◌, ◌≤◌, false, min, List, [], ◌∷◌, length}
+use Rattle.std.specs.Prelude.{◌≡◌, ℕ, ◌+◌, ◌-◌, ◌^◌, ◌<◌, ◌≤◌, false, min, List, length, map}
 use Rattle.tip_code.specs.declared.stop.Stop.{Stop}
 use Rattle.tip_code.specs.declared.stop.Stop.TheVariants as stop
 use Rattle.tip_fault.specs.Plans.{losses_in, devices_for}
 use Rattle.tip_fault.specs.declared.fault.Fault.{Fault}
 use Rattle.tip_fault.specs.declared.losses.Loss.{Loss}
-use Rattle.tip_shelf.specs.Meaning.{Meaning}
-use Rattle.tip_shelf.specs.Service.{Pulled}
+use Rattle.tip_shelf.specs.Calls.{InRange, Loads}
+use Rattle.tip_shelf.specs.Performing.{ShelfCall, get_call, put_call, erase_call, restore_call, pull_call, Series}
+use Rattle.tip_shelf.specs.Meaning.{Meaning, Within}
 
 -- The shelf below, the planned losses in their order, and how many accesses were counted.
 abbrev pub below_of : {S : Type 0} → Fault S → S
@@ -43,21 +44,44 @@ pub data PlanStop {E : Type 0} (f : Faults E) (d : ℕ) : Stop → Type 0 where
 abbrev pub next_access : ℕ → ℕ
 next_access n = min (n + 1) (2 ^ 32 - 1)
 
--- These devices were pulled, one after the other: v became w.
-unfoldable pub PulledAll : {E : Type 0} → List ℕ → Meaning E → Meaning E → Type 0
-PulledAll [] v w = w ≡ v
-PulledAll {E} (d ∷ ds) v w = (u : Meaning E) × Pulled v u d × PulledAll ds u w
+-- The pulls that are planned for access n, in the order of the plan.
+abbrev pub pulls_for : {E : Type 0} → ℕ → List Loss → List (ShelfCall E)
+pulls_for n ls = map pull_call (devices_for n ls)
 
--- A call that does `Act` to the shelf below, and is an access where it is in range: f became g. The access is counted, then each device
--- that is planned for its number is pulled, and then the call goes down. Out of range nothing changes.
-pub record Access {E : Type 0} (f g : Faults E) (Range : Type 0) (Act : Meaning E → Meaning E → Type 0) : Type 0 where
-  pub planned : g.planned ≡ f.planned
-  pub counted : Range → g.accesses ≡ next_access f.accesses
-  pub pulled : Range → (u : Meaning E) × PulledAll (devices_for g.accesses f.planned) f.below u × Act u g.below
-  pub beyond : (Range → ⊥) → g ≡ f
+-- A call that is an access where it is in range: it is counted, each device that is planned for its number is pulled,
+-- and then the call goes down. Out of range nothing is called.
+pub record Access {S E : Type 0} (performs : S → ShelfCall E → S → Type 0)
+    (s : Fault S) (Range : Type 0) (k : ShelfCall E) (t : Fault S) : Type 0 where
+  pub planned : losses_of t ≡ losses_of s
+  pub counted : Range → accesses_of t ≡ next_access (accesses_of s)
+  pub down :
+      Range →
+      (m : S) × Series performs (below_of s) (pulls_for (accesses_of t) (losses_of s)) m × performs m k (below_of t)
+  pub beyond : (Range → ⊥) → t ≡ s
 
--- A call that does `Act` to the shelf below, and is no access.
-pub record Passed {E : Type 0} (f g : Faults E) (Act : Meaning E → Meaning E → Type 0) : Type 0 where
-  pub planned : g.planned ≡ f.planned
-  pub accesses : g.accesses ≡ f.accesses
-  pub act : Act f.below g.below
+-- A call that is no access goes down alone.
+pub record Passed {S E : Type 0} (performs : S → ShelfCall E → S → Type 0)
+    (s : Fault S) (k : ShelfCall E) (t : Fault S) : Type 0 where
+  pub planned : losses_of t ≡ losses_of s
+  pub accesses : accesses_of t ≡ accesses_of s
+  pub down : performs (below_of s) k (below_of t)
+
+-- What a call of a fault shelf is, by the calls of the shelf below. Asking for a state, a pull and a fit are no
+-- accesses.
+abbrev pub Faulted :
+    {S E : Type 0} →
+    (S → Meaning E) →
+    (S → ShelfCall E → S → Type 0) →
+    Fault S →
+    ShelfCall E →
+    Fault S →
+    Type 0
+Faulted meaning performs s (get_call i c r a) t =
+    Access performs s (InRange (meaning (below_of s)) i c r) (get_call i c r a) t
+Faulted meaning performs s (put_call i c r e a) t =
+    Access performs s (InRange (meaning (below_of s)) i c r) (put_call i c r e a) t
+Faulted meaning performs s (erase_call i c a) t =
+    Access performs s (Within (meaning (below_of s)) i c) (erase_call i c a) t
+Faulted meaning performs s (restore_call i c es a) t =
+    Access performs s (Loads (meaning (below_of s)) i c es) (restore_call i c es a) t
+Faulted meaning performs s k t = Passed performs s k t

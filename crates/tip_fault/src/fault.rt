@@ -2,12 +2,11 @@
 ghost use Rattle.std.specs.Prelude.{◌≡◌, ◌-◌, ◌≤◌, ◌++◌, [], ◌∷◌, MatchResult};
 ghost use Rattle.tip_code.specs.Stops.{Stopped};
 ghost use Rattle.tip_element.specs.Laws.{Exactly};
-ghost use Rattle.tip_fault.specs.Faults.{below_of, losses_of, accesses_of, faults_of, meaning_of, PlanStop, next_access, PulledAll, Access, Passed};
+ghost use Rattle.tip_fault.specs.Faults.{below_of, losses_of, accesses_of, faults_of, meaning_of, PlanStop, next_access, pulls_for, Faulted};
 ghost use Rattle.tip_fault.specs.Laws.{unsteady_sound, unsteady_devices};
-ghost use Rattle.tip_fault.specs.Plans.{devices_for};
-ghost use Rattle.tip_shelf.specs.Calls.{Told, Got, Put, Erased, Restored, InRange, Loads};
+ghost use Rattle.tip_shelf.specs.Calls.{InRange, Loads};
+ghost use Rattle.tip_shelf.specs.Performing.{Performed, Series};
 ghost use Rattle.tip_shelf.specs.Meaning.{Within};
-ghost use Rattle.tip_shelf.specs.Service.{Pulled, Fitted};
 
 use super::losses::{Loss, Losses};
 use tip_code::geometry::Geometry;
@@ -16,9 +15,9 @@ use tip_element::element::Element;
 use tip_shelf::shelf::{Out, Serviced, Shelf, State};
 
 /// Pulls the device of a planned loss where it is planned for this access.
-#[tactic(auto, using(crate::proofs::Pulling::pulled_one, crate::proofs::Pulling::pulled_none))]
+#[tactic(auto, using(crate::proofs::Pulling::pulls_one, crate::proofs::Pulling::pulls_none))]
 fn pull_if_planned<S: Serviced>(below: &mut S, loss: Loss, access: u32)
-    ensures pulled { PulledAll (devices_for access (loss ∷ [])) (S.meaning below.old) (S.meaning below.new) }
+    ensures calls { Series (Performed S.meaning S.performs) below.old (pulls_for access (loss ∷ [])) below.new }
     ensures lent { S.lent below.new ≡ S.lent below.old }
 {
     if loss.access == access {
@@ -27,9 +26,9 @@ fn pull_if_planned<S: Serviced>(below: &mut S, loss: Loss, access: u32)
 }
 
 /// Pulls each device that is planned for this access, in the order of the plan.
-#[tactic(auto, using(crate::proofs::Pulling::pulled_nothing, crate::proofs::Pulling::pulled_more))]
+#[tactic(auto, using(tip_shelf::proofs::Series::series_none, crate::proofs::Pulling::pulls_more))]
 fn pull_planned<S: Serviced>(below: &mut S, planned: &[Loss], access: u32)
-    ensures pulled { PulledAll (devices_for access planned.now) (S.meaning below.old) (S.meaning below.new) }
+    ensures calls { Series (Performed S.meaning S.performs) below.old (pulls_for access planned.now) below.new }
     ensures lent { S.lent below.new ≡ S.lent below.old }
 {
     for loss in planned {
@@ -101,7 +100,8 @@ impl<S: Serviced> Fault<S> {
     fn begin_access(&mut self)
         ensures counted { accesses_of self.new ≡ next_access (accesses_of self.old) }
         ensures planned { losses_of self.new ≡ losses_of self.old }
-        ensures pulled { PulledAll (devices_for (accesses_of self.new) (losses_of self.old)) (S.meaning self.old.below) (S.meaning self.new.below) }
+        ensures calls { Series (Performed S.meaning S.performs) self.old.below
+            (pulls_for (accesses_of self.new) (losses_of self.old)) self.new.below }
         ensures lent { S.lent self.new.below ≡ S.lent self.old.below }
     {
         let Fault {
@@ -157,6 +157,8 @@ impl<S: Serviced> Shelf for Fault<S> {
 
     ghost lent = { λ s. S.lent (below_of s) };
 
+    ghost performs = { Faulted S.meaning (Performed S.meaning S.performs) };
+
     #[tactic(auto, using(crate::proofs::Unsteady::shaped_unsteady))]
     fn geometry(&self) -> Geometry {
         self.below.geometry()
@@ -169,24 +171,13 @@ impl<S: Serviced> Shelf for Fault<S> {
 
     /// Tells which of the three a strip is. That is no access.
     #[tactic(auto, using(crate::proofs::Unsteady::told_unsteady))]
-    fn state(&mut self, stripe: usize, column: usize) -> State
-        ensures act { Told (meaning_of S.meaning self.old) (meaning_of S.meaning self.new) stripe column result }
-        ensures lent { S.lent (below_of self.new) ≡ S.lent (below_of self.old) }
-        ensures own { Passed (faults_of S.meaning self.old) (faults_of S.meaning self.new)
-            (λ v w. Told v w stripe column result) }
-    {
+    fn state(&mut self, stripe: usize, column: usize) -> State {
         self.below.state(stripe, column)
     }
 
     /// Gives the element at a row of a held strip. That is an access, where there is such a cell.
     #[tactic(auto, using(crate::proofs::Acts::got_beyond))]
-    fn get(&mut self, stripe: usize, column: usize, row: usize) -> Result<S::Element, Out>
-        ensures act { Got (meaning_of S.meaning self.old) (meaning_of S.meaning self.new) stripe column row result }
-        ensures lent { S.lent (below_of self.new) ≡ S.lent (below_of self.old) }
-        ensures own { Access (faults_of S.meaning self.old) (faults_of S.meaning self.new)
-            (InRange (S.meaning (below_of self.old)) stripe column row)
-            (λ v w. Got v w stripe column row result) }
-    {
+    fn get(&mut self, stripe: usize, column: usize, row: usize) -> Result<S::Element, Out> {
         if !self.has_cell(stripe, column, row) {
             return Err(Out);
         }
@@ -202,13 +193,7 @@ impl<S: Serviced> Shelf for Fault<S> {
         column: usize,
         row: usize,
         element: S::Element,
-    ) -> Result<(), Out>
-        ensures act { Put (meaning_of S.meaning self.old) (meaning_of S.meaning self.new) stripe column row element result }
-        ensures lent { S.lent (below_of self.new) ≡ S.lent (below_of self.old) }
-        ensures own { Access (faults_of S.meaning self.old) (faults_of S.meaning self.new)
-            (InRange (S.meaning (below_of self.old)) stripe column row)
-            (λ v w. Put v w stripe column row element result) }
-    {
+    ) -> Result<(), Out> {
         if !self.has_cell(stripe, column, row) {
             return Err(Out);
         }
@@ -218,13 +203,7 @@ impl<S: Serviced> Shelf for Fault<S> {
 
     /// Makes a held or blank strip blank. That is an access, where there is such a strip.
     #[tactic(auto, using(crate::proofs::Acts::erased_beyond))]
-    fn erase(&mut self, stripe: usize, column: usize) -> Result<(), Out>
-        ensures act { Erased (meaning_of S.meaning self.old) (meaning_of S.meaning self.new) stripe column result }
-        ensures lent { S.lent (below_of self.new) ≡ S.lent (below_of self.old) }
-        ensures own { Access (faults_of S.meaning self.old) (faults_of S.meaning self.new)
-            (Within (S.meaning (below_of self.old)) stripe column)
-            (λ v w. Erased v w stripe column result) }
-    {
+    fn erase(&mut self, stripe: usize, column: usize) -> Result<(), Out> {
         if !self.has_strip(stripe, column) {
             return Err(Out);
         }
@@ -235,13 +214,12 @@ impl<S: Serviced> Shelf for Fault<S> {
     /// Makes a blank strip held, with exactly these elements, one for each row. That is an access, where there is such a strip and
     /// the elements are as many as it has rows.
     #[tactic(auto, using(crate::proofs::Acts::restored_beyond))]
-    fn restore(&mut self, stripe: usize, column: usize, elements: &[S::Element]) -> Result<(), Out>
-        ensures act { Restored (meaning_of S.meaning self.old) (meaning_of S.meaning self.new) stripe column elements.now result }
-        ensures lent { S.lent (below_of self.new) ≡ S.lent (below_of self.old) }
-        ensures own { Access (faults_of S.meaning self.old) (faults_of S.meaning self.new)
-            (Loads (S.meaning (below_of self.old)) stripe column elements.now)
-            (λ v w. Restored v w stripe column elements.now result) }
-    {
+    fn restore(
+        &mut self,
+        stripe: usize,
+        column: usize,
+        elements: &[S::Element],
+    ) -> Result<(), Out> {
         if !self.loads(stripe, column, elements) {
             return Err(Out);
         }
@@ -255,23 +233,13 @@ impl<S: Serviced> Shelf for Fault<S> {
 impl<S: Serviced> Serviced for Fault<S> {
     /// Makes every strip of the device absent. That is no access.
     #[tactic(auto, using(crate::proofs::Unsteady::pulled_unsteady))]
-    fn pull(&mut self, device: usize)
-        ensures act { Pulled (meaning_of S.meaning self.old) (meaning_of S.meaning self.new) device }
-        ensures lent { S.lent (below_of self.new) ≡ S.lent (below_of self.old) }
-        ensures own { Passed (faults_of S.meaning self.old) (faults_of S.meaning self.new)
-            (λ v w. Pulled v w device) }
-    {
+    fn pull(&mut self, device: usize) {
         self.below.pull(device)
     }
 
     /// Says yes, and makes each absent strip of the device blank; or says no. That is no access.
     #[tactic(auto, using(crate::proofs::Unsteady::fitted_unsteady))]
-    fn fit(&mut self, device: usize) -> bool
-        ensures act { Fitted (meaning_of S.meaning self.old) (meaning_of S.meaning self.new) device result }
-        ensures lent { S.lent (below_of self.new) ≡ S.lent (below_of self.old) }
-        ensures own { Passed (faults_of S.meaning self.old) (faults_of S.meaning self.new)
-            (λ v w. Fitted v w device result) }
-    {
+    fn fit(&mut self, device: usize) -> bool {
         self.below.fit(device)
     }
 

@@ -1,13 +1,15 @@
 -- What the calls of an image shelf leave in its bytes: s is the shelf before a call, and t after it.
-use Rattle.std.specs.Prelude.{◌≡◌, ℕ, ◌+◌, ◌*◌, ◌<◌, ◌≤◌, true, false, List, length, Result, MatchResult, slice_index_or, slice_set}
+use Rattle.std.specs.Prelude.{◌≡◌, ℕ, ◌+◌, ◌*◌, ◌<◌, ◌≤◌, true, false, ◌&&◌, nat_le, List, length, Result, MatchResult, slice_index_or, slice_set}
 use Rattle.std.specs.Int.{w64, to_be_bytes}
 use Rattle.tip_code.specs.Geometry.{prime_of, stripes_of}
 use Rattle.tip_element.specs.Words.{no_word}
 use Rattle.tip_element.specs.declared.word.Word.{Word}
+use Rattle.tip_shelf.specs.Performing.{ShelfCall, state_call, get_call, put_call, erase_call, restore_call, pull_call, fit_call}
 use Rattle.tip_shelf.specs.declared.shelf.Out.{Out}
 use Rattle.tip_store.specs.Layout.{strip_number, Swept}
 use Rattle.tip_store.specs.Pasting.{Pasted}
 use Rattle.tip_store.specs.declared.status.Event.{Event}
+use Rattle.tip_store.specs.declared.status.Event.TheVariants.{Pull, Fit}
 use Rattle.tip_image.specs.Image.{width, word_at, fits_of}
 use Rattle.tip_image.specs.declared.ImageShelf.{ImageShelf}
 
@@ -47,3 +49,13 @@ module _ (s t : ImageShelf) where
     pub swept : fits_of s ≡ true → d ≤ prime_of s.geometry.now → Swept (prime_of s.geometry.now) (stripes_of s.geometry.now) (width (prime_of s.geometry.now)) d e s.bytes.now t.bytes.now
     pub unfit : fits_of s ≡ false → Untouched
     pub beyond : prime_of s.geometry.now < d → Untouched
+
+-- What a call of an image shelf writes. Asking for a state and getting a word write nothing.
+abbrev pub Writes : ImageShelf → ShelfCall Word → ImageShelf → Type 0
+Writes s (state_call i c a) t = Untouched s t
+Writes s (get_call i c r a) t = Untouched s t
+Writes s (put_call i c r w a) t = Puts s t i c r w a
+Writes s (erase_call i c a) t = Erases s t i c a
+Writes s (restore_call i c ws a) t = Restores s t i c ws a
+Writes s (pull_call d) t = Serves s t d Pull
+Writes s (fit_call d a) t = Serves s t d Fit × (a ≡ (fits_of s && nat_le d (prime_of s.geometry.now)))

@@ -1,13 +1,8 @@
 //! The image shelf: strips of words in the bytes of an image that a caller lends.
 #![tactic(auto)]
 
-ghost use Rattle.std.specs.Prelude.{◌≡◌, ◌&&◌, nat_le, length};
-ghost use Rattle.tip_shelf.specs.Calls.{Shaped, Told, Got, Put, Erased, Restored};
-ghost use Rattle.tip_shelf.specs.Service.{Pulled, Fitted};
-ghost use Rattle.tip_code.specs.Geometry.{prime_of};
-ghost use Rattle.tip_store.specs.declared.status.Event.TheVariants.{Pull, Fit};
-ghost use Rattle.tip_image.specs.Image.{image_of, loans, fits_of};
-ghost use Rattle.tip_image.specs.Writing.{Untouched, Puts, Erases, Restores, Serves};
+ghost use Rattle.tip_image.specs.Image.{image_of, loans};
+ghost use Rattle.tip_image.specs.Writing.{Writes};
 ghost use Rattle.tip_image.specs.Laws.{image_sound, image_devices};
 
 mod words;
@@ -65,6 +60,8 @@ impl Shelf for ImageShelf<'_> {
 
     ghost lent = { loans };
 
+    ghost performs = { Writes };
+
     fn geometry(&self) -> Geometry {
         *self.geometry
     }
@@ -73,11 +70,7 @@ impl Shelf for ImageShelf<'_> {
         true
     }
 
-    fn state(&mut self, stripe: usize, column: usize) -> State
-        ensures act { Told (image_of self.old) (image_of self.new) stripe column result }
-        ensures lent { loans self.new ≡ loans self.old }
-        ensures own { Untouched self.old self.new }
-    {
+    fn state(&mut self, stripe: usize, column: usize) -> State {
         match self.spot(stripe, column) {
             Some(spot) => self.state_of(spot),
             None => State::Absent,
@@ -85,22 +78,14 @@ impl Shelf for ImageShelf<'_> {
     }
 
     #[tactic(auto, using(crate::proofs::Calling::image_got))]
-    fn get(&mut self, stripe: usize, column: usize, row: usize) -> Result<Word, Out>
-        ensures act { Got (image_of self.old) (image_of self.new) stripe column row result }
-        ensures lent { loans self.new ≡ loans self.old }
-        ensures own { Untouched self.old self.new }
-    {
+    fn get(&mut self, stripe: usize, column: usize, row: usize) -> Result<Word, Out> {
         let Some(index) = self.held_word(stripe, column, row) else {
             return Err(Out);
         };
         Ok(self.word(index))
     }
 
-    fn put(&mut self, stripe: usize, column: usize, row: usize, element: Word) -> Result<(), Out>
-        ensures act { Put (image_of self.old) (image_of self.new) stripe column row element result }
-        ensures lent { loans self.new ≡ loans self.old }
-        ensures own { Puts self.old self.new stripe column row element result }
-    {
+    fn put(&mut self, stripe: usize, column: usize, row: usize, element: Word) -> Result<(), Out> {
         let Some(index) = self.held_word(stripe, column, row) else {
             return Err(Out);
         };
@@ -108,11 +93,7 @@ impl Shelf for ImageShelf<'_> {
         Ok(())
     }
 
-    fn erase(&mut self, stripe: usize, column: usize) -> Result<(), Out>
-        ensures act { Erased (image_of self.old) (image_of self.new) stripe column result }
-        ensures lent { loans self.new ≡ loans self.old }
-        ensures own { Erases self.old self.new stripe column result }
-    {
+    fn erase(&mut self, stripe: usize, column: usize) -> Result<(), Out> {
         let Some(spot) = self.spot(stripe, column) else {
             return Err(Out);
         };
@@ -123,11 +104,7 @@ impl Shelf for ImageShelf<'_> {
         Ok(())
     }
 
-    fn restore(&mut self, stripe: usize, column: usize, elements: &[Word]) -> Result<(), Out>
-        ensures act { Restored (image_of self.old) (image_of self.new) stripe column elements.now result }
-        ensures lent { loans self.new ≡ loans self.old }
-        ensures own { Restores self.old self.new stripe column elements.now result }
-    {
+    fn restore(&mut self, stripe: usize, column: usize, elements: &[Word]) -> Result<(), Out> {
         let Some(spot) = self.spot(stripe, column) else {
             return Err(Out);
         };
@@ -143,20 +120,11 @@ impl Shelf for ImageShelf<'_> {
 }
 
 impl Serviced for ImageShelf<'_> {
-    fn pull(&mut self, device: usize)
-        ensures act { Pulled (image_of self.old) (image_of self.new) device }
-        ensures lent { loans self.new ≡ loans self.old }
-        ensures own { Serves self.old self.new device Pull }
-    {
+    fn pull(&mut self, device: usize) {
         self.sweep(device, Event::Pull);
     }
 
-    fn fit(&mut self, device: usize) -> bool
-        ensures act { Fitted (image_of self.old) (image_of self.new) device result }
-        ensures lent { loans self.new ≡ loans self.old }
-        ensures own { Serves self.old self.new device Fit }
-        ensures answer { result ≡ (fits_of self.old && nat_le device (prime_of self.old.geometry.now)) }
-    {
+    fn fit(&mut self, device: usize) -> bool {
         self.sweep(device, Event::Fit)
     }
 

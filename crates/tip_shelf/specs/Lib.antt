@@ -1,3 +1,4 @@
 pub mod Calls
 pub mod Meaning
+pub mod Performing
 pub mod Service

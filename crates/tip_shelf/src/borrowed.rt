@@ -12,6 +12,8 @@ impl<S: Shelf> Shelf for &mut S {
 
     ghost lent = { λ s. s.ghost_name ∷ S.lent s.now };
 
+    ghost performs = { λ s k t. S.performs s.now k t.now };
+
     fn geometry(&self) -> Geometry {
         (**self).geometry()
     }

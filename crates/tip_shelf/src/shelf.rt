@@ -4,6 +4,7 @@ ghost use Rattle.std.specs.Borrow.{GName};
 ghost use Rattle.tip_shelf.specs.Meaning.{Meaning, Sound, Devices};
 ghost use Rattle.tip_shelf.specs.Calls.{Shaped, Told, Got, Put, Erased, Restored};
 ghost use Rattle.tip_shelf.specs.Service.{Pulled, Fitted};
+ghost use Rattle.tip_shelf.specs.Performing.{ShelfCall, state_call, get_call, put_call, erase_call, restore_call, pull_call, fit_call};
 
 use tip_code::geometry::Geometry;
 use tip_element::element::Element;
@@ -36,6 +37,10 @@ pub trait Shelf {
     /// lent a buffer knows afterwards that the buffer holds what the shelf left in it.
     ghost lent: { Self → List GName };
 
+    /// What a call of this shelf does to the shelf, before and after. Code for every shelf knows it of a call by making
+    /// that call, and by nothing else. So whoever promises it has made the call, also one that changes nothing.
+    ghost performs: { Self → ShelfCall Self.Element → Self → Type 0 };
+
     /// The prime and the number of stripes.
     fn geometry(&self) -> Geometry
         ensures { Shaped (meaning self.now) result };
@@ -47,12 +52,14 @@ pub trait Shelf {
     /// Tells which of the three a strip is, absent beyond the last stripe or column, and alters nothing.
     fn state(&mut self, stripe: usize, column: usize) -> State
         ensures act { Told (meaning self.old) (meaning self.new) stripe column result }
-        ensures lent { lent self.new ≡ lent self.old };
+        ensures lent { lent self.new ≡ lent self.old }
+        ensures performs { performs self.old (state_call stripe column result) self.new };
 
     /// Gives the element at a row of a held strip.
     fn get(&mut self, stripe: usize, column: usize, row: usize) -> Result<Self::Element, Out>
         ensures act { Got (meaning self.old) (meaning self.new) stripe column row result }
-        ensures lent { lent self.new ≡ lent self.old };
+        ensures lent { lent self.new ≡ lent self.old }
+        ensures performs { performs self.old (get_call stripe column row result) self.new };
 
     /// Sets one element of a held strip and no other.
     fn put(
@@ -63,12 +70,14 @@ pub trait Shelf {
         element: Self::Element,
     ) -> Result<(), Out>
         ensures act { Put (meaning self.old) (meaning self.new) stripe column row element result }
-        ensures lent { lent self.new ≡ lent self.old };
+        ensures lent { lent self.new ≡ lent self.old }
+        ensures performs { performs self.old (put_call stripe column row element result) self.new };
 
     /// Makes a held or blank strip blank.
     fn erase(&mut self, stripe: usize, column: usize) -> Result<(), Out>
         ensures act { Erased (meaning self.old) (meaning self.new) stripe column result }
-        ensures lent { lent self.new ≡ lent self.old };
+        ensures lent { lent self.new ≡ lent self.old }
+        ensures performs { performs self.old (erase_call stripe column result) self.new };
 
     /// Makes a blank strip held, with exactly these elements, one for each row.
     fn restore(
@@ -78,7 +87,8 @@ pub trait Shelf {
         elements: &[Self::Element],
     ) -> Result<(), Out>
         ensures act { Restored (meaning self.old) (meaning self.new) stripe column elements.now result }
-        ensures lent { lent self.new ≡ lent self.old };
+        ensures lent { lent self.new ≡ lent self.old }
+        ensures performs { performs self.old (restore_call stripe column elements.now result) self.new };
 
     /// What is true of every shelf.
     ghost sound: { (s : Self) → Sound (meaning s) };
@@ -89,12 +99,14 @@ pub trait Serviced: Shelf {
     /// Makes every strip of the device absent.
     fn pull(&mut self, device: usize)
         ensures act { Pulled (Self.meaning self.old) (Self.meaning self.new) device }
-        ensures lent { Self.lent self.new ≡ Self.lent self.old };
+        ensures lent { Self.lent self.new ≡ Self.lent self.old }
+        ensures performs { Self.performs self.old (pull_call device) self.new };
 
     /// Says yes, and makes each absent strip of the device blank; or says no.
     fn fit(&mut self, device: usize) -> bool
         ensures act { Fitted (Self.meaning self.old) (Self.meaning self.new) device result }
-        ensures lent { Self.lent self.new ≡ Self.lent self.old };
+        ensures lent { Self.lent self.new ≡ Self.lent self.old }
+        ensures performs { Self.performs self.old (fit_call device result) self.new };
 
     /// Its devices are those from 0 to p.
     ghost devices: { (s : Self) → Devices (Self.Shelf.meaning s) };

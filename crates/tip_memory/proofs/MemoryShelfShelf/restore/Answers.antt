@@ -13,7 +13,7 @@ loaded g c =
 pub returns-clause-act : goal.returns-clause-act
 returns-clause-act g c = memory_restored g.E.Element.zero c.args.self.now c.args.stripe c.args.column c.in-Some.spot (search rules) (search rules) _ _ _ _ (search rules) (search rules) (loaded g c) (search rules)
 
-pub returns-clause-own : goal.returns-clause-own
-returns-clause-own g c =
+pub returns-clause-performs : goal.returns-clause-performs
+returns-clause-performs g c =
     let start = first_cell g.E.Element.zero c.args.self.now c.args.stripe c.args.column c.in-Some.spot (search rules) (search rules) in
     (subst (λ a. Pasted g.E.Element.zero a c.args.elements.now c.args.self.now.cells.now c.paste.new.buffer) start (loaded g c), search rules)

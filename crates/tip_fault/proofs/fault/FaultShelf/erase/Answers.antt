@@ -1,6 +1,8 @@
 use Rattle.std.proofs.Common.{rules}
-use Rattle.tip_fault.proofs.Acts.{erased_lost}
+use Rattle.tip_fault.proofs.Acts.{lost_pulls, erased_lost}
 use Rattle.tip_fault.proofs.fault.FaultShelf.erase.Goals as goal
 
 pub returns-clause-act : goal.returns-clause-act
-returns-clause-act g c = let range = c.has_strip.ensures.sound (search rules) in search erased_lost
+returns-clause-act g c =
+    let lost = lost_pulls g.S.Shelf.meaning g.S.Shelf.performs _ _ _ c.begin_access.ensures.calls in
+    erased_lost lost _ _ _ (c.has_strip.ensures.sound (search rules)) c.erase.ensures.act

@@ -1,6 +1,8 @@
 use Rattle.std.proofs.Common.{rules}
-use Rattle.tip_fault.proofs.Acts.{put_lost}
+use Rattle.tip_fault.proofs.Acts.{lost_pulls, put_lost}
 use Rattle.tip_fault.proofs.fault.FaultShelf.put.Goals as goal
 
 pub returns-clause-act : goal.returns-clause-act
-returns-clause-act g c = let range = c.has_cell.ensures.sound (search rules) in search put_lost
+returns-clause-act g c =
+    let lost = lost_pulls g.S.Shelf.meaning g.S.Shelf.performs _ _ _ c.begin_access.ensures.calls in
+    put_lost lost _ _ _ _ _ (c.has_cell.ensures.sound (search rules)) c.put.ensures.act
