@@ -1,3 +1,4 @@
+pub mod Counting
 pub mod Picking
 mod Reading
 mod Stopping

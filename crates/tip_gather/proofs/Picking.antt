@@ -1,7 +1,6 @@
 -- The columns of a stripe whose strips pass a test, one after another, and how many strips are out.
-use Rattle.std.proofs.Common.{◌≡◌, ℕ, ◌+◌, ◌<◌, ◌≤◌, Bool, true, false, ◌||◌, ◌&&◌, ◌==◌, nat_le, sym, ◌∙◌, arith}
+use Rattle.std.proofs.Common.{◌≡◌, ℕ, ◌+◌, ◌≤◌, Bool, true, false, ◌||◌, ◌&&◌, ◌==◌, nat_le, sym, ◌∙◌, arith}
 use Rattle.std.proofs.lemmas.Bool.Decides.{nat_tests}
-use Rattle.tip_element.specs.Counts.{count_below}
 use Rattle.tip_element.proofs.Bits.{count_same, count_short, count_most}
 use Rattle.tip_columns.specs.Sets.{in_set, size}
 use Rattle.tip_columns.specs.declared.Columns.{Columns}

@@ -1,5 +1,5 @@
 -- Strips read row by row and column by column.
-use Rattle.std.proofs.Common.{◌≡◌, ℕ, ◌+◌, ◌-◌, ◌*◌, ◌<◌, ◌≤◌, Bool, true, false, ◌||◌, List, length, Some, Ok, Err, slice_get, slice_set, ◌==◌, refl, sym, subst, ◌∙◌, ⊎_elim, arith}
+use Rattle.std.proofs.Common.{◌≡◌, ℕ, ◌+◌, ◌-◌, ◌*◌, ◌<◌, ◌≤◌, Bool, true, List, length, Some, Ok, Err, slice_get, slice_set, refl, sym, subst, ◌∙◌, ⊎_elim, arith}
 use Rattle.std.proofs.lemmas.Bool.{cases_eq, cases_lt}
 use Rattle.std.proofs.lemmas.Bool.Decides.{nat_tests}
 use Rattle.std.proofs.lemmas.Option.{get_or_from_slice_get}
@@ -9,8 +9,7 @@ use Rattle.tip_code.proofs.Filling.{set_here, set_other}
 use Rattle.tip_shelf.specs.Meaning.{held, Meaning, Within, Sound}
 use Rattle.tip_shelf.specs.Calls.{Same, is_out, InRange, Got}
 use Rattle.tip_shelf.specs.declared.shelf.Out.{Out}
-use Rattle.tip_shelf.proofs.Strips.{same_refl, same-then}
-use Rattle.tip_columns.specs.Sets.{in_set}
+use Rattle.tip_shelf.proofs.Strips.{same_refl}
 use Rattle.tip_columns.specs.declared.Columns.{Columns}
 use Rattle.tip_shelf.proofs.Faring.{fared_same, fared-then, fares_held, out_not_held, got_fared, got_element, got_none}
 use Rattle.tip_gather.specs.Gathering.{StripRead, StripsRead, Picked, Gathered}

@@ -2,7 +2,9 @@
 ghost use Rattle.std.specs.Prelude.{◌≡◌, ℕ, ◌+◌, ◌<◌, ◌≤◌, ◌||◌, ◌==◌};
 ghost use Rattle.tip_columns.specs.Sets.{in_set};
 ghost use Rattle.tip_shelf.specs.Calls.{Same, is_blank, is_out};
+ghost use Rattle.tip_shelf.specs.Performing.{Performed, AtMost};
 ghost use Rattle.tip_gather.specs.Gathering.{Picked, outs};
+ghost use Rattle.tip_gather.specs.Looking.{AsksState};
 
 use super::sizes::columns_of;
 use tip_columns::Columns;
@@ -13,6 +15,7 @@ pub fn is_out<S: Shelf>(shelf: &mut S, stripe: usize, column: usize) -> bool
     ensures same { Same (S.meaning shelf.old) (S.meaning shelf.new) }
     ensures value { result ≡ is_out ((S.meaning shelf.old).strip stripe column) }
     ensures lent { S.lent shelf.new ≡ S.lent shelf.old }
+    ensures calls { AtMost 1 (AsksState stripe) (Performed S.meaning S.performs) shelf.old shelf.new }
 {
     shelf.state(stripe, column) != State::Held
 }
@@ -22,6 +25,7 @@ pub fn is_blank<S: Shelf>(shelf: &mut S, stripe: usize, column: usize) -> bool
     ensures same { Same (S.meaning shelf.old) (S.meaning shelf.new) }
     ensures value { result ≡ is_blank ((S.meaning shelf.old).strip stripe column) }
     ensures lent { S.lent shelf.new ≡ S.lent shelf.old }
+    ensures calls { AtMost 1 (AsksState stripe) (Performed S.meaning S.performs) shelf.old shelf.new }
 {
     shelf.state(stripe, column) == State::Blank
 }
@@ -35,10 +39,12 @@ fn added(set: Columns, column: usize) -> Columns
 }
 
 /// The columns of a stripe whose strips are out; all of them where there is no such stripe.
-#[tactic(auto, using(crate::proofs::Picking::picked_none))]
+#[tactic(auto, using(crate::proofs::Picking::picked_none, tip_shelf::proofs::Series::at_most_none))]
 pub fn columns_out<S: Shelf>(shelf: &mut S, stripe: usize) -> Columns
     ensures picked { Picked is_out (S.meaning shelf.old) (S.meaning shelf.new) stripe ((S.meaning shelf.old).prime + 1) result }
     ensures lent { S.lent shelf.new ≡ S.lent shelf.old }
+    ensures calls { AtMost ((S.meaning shelf.old).prime + 1) (AsksState stripe)
+        (Performed S.meaning S.performs) shelf.old shelf.new }
 {
     let mut out = Columns(0);
     for column in 0..columns_of(shelf) {
@@ -50,10 +56,12 @@ pub fn columns_out<S: Shelf>(shelf: &mut S, stripe: usize) -> Columns
 }
 
 /// The columns of a stripe whose strips are blank.
-#[tactic(auto, using(crate::proofs::Picking::picked_none))]
+#[tactic(auto, using(crate::proofs::Picking::picked_none, tip_shelf::proofs::Series::at_most_none))]
 pub fn columns_blank<S: Shelf>(shelf: &mut S, stripe: usize) -> Columns
     ensures picked { Picked is_blank (S.meaning shelf.old) (S.meaning shelf.new) stripe ((S.meaning shelf.old).prime + 1) result }
     ensures lent { S.lent shelf.new ≡ S.lent shelf.old }
+    ensures calls { AtMost ((S.meaning shelf.old).prime + 1) (AsksState stripe)
+        (Performed S.meaning S.performs) shelf.old shelf.new }
 {
     let mut blank = Columns(0);
     for column in 0..columns_of(shelf) {
@@ -70,6 +78,8 @@ pub fn count_out<S: Shelf>(shelf: &mut S, stripe: usize) -> usize
     ensures value { result ≡ outs (S.meaning shelf.old) stripe }
     ensures most { result ≤ 32 }
     ensures lent { S.lent shelf.new ≡ S.lent shelf.old }
+    ensures calls { AtMost ((S.meaning shelf.old).prime + 1) (AsksState stripe)
+        (Performed S.meaning S.performs) shelf.old shelf.new }
 {
     columns_out(shelf, stripe).count() as usize
 }

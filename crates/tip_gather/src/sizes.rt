@@ -14,6 +14,7 @@ pub fn rows_of<S: Shelf>(shelf: &S) -> usize
 pub fn columns_of<S: Shelf>(shelf: &S) -> usize
     ensures value { result ≡ (S.meaning shelf.now).prime + 1 }
     ensures most { result ≤ 32 }
+    ensures least { 4 ≤ result }
 {
     shelf.geometry().prime().number + 1
 }

@@ -1,4 +1,5 @@
-use Rattle.std.proofs.Common.{◌∙◌}
+use Rattle.std.proofs.Common.{◌∙◌, arith}
+use Rattle.tip_shelf.proofs.Series.{at_most_then}
 use Rattle.tip_gather.proofs.Picking.{picked_more, picked_skip}
 use Rattle.tip_gather.proofs.columns.columns_blank.Goals as goal
 use Rattle.tip_gather.proofs.columns.columns_blank.Goals.{then-is_blank, else-is_blank}
@@ -12,5 +13,6 @@ loop-column-preserved g c =
         | then-is_blank w ↦ picked_more l.invariant.picked e.same e.value w.if-is_blank.true w.blank-is w.added-blank.ensures
         | else-is_blank w ↦ picked_skip l.invariant.picked e.same e.value w.if-is_blank.false w.blank-is
       ];
+      calls = at_most_then _ l.invariant.calls e.calls (omega arith);
       lent = e.lent ∙ l.invariant.lent;
     }

@@ -1,6 +1,8 @@
 use Rattle.std.proofs.Common.{◌≡◌}
 use Rattle.tip_shelf.specs.Calls.{is_out}
 use Rattle.tip_gather.specs.Gathering.{Picked}
+use Rattle.tip_shelf.specs.Performing.{Performed, AtMost}
+use Rattle.tip_gather.specs.Looking.{AsksState}
 use Rattle.tip_gather.proofs.columns.columns_out.Given as goal
 
 abbrev pub invariant-loop-column : goal.invariant-loop-column
@@ -8,5 +10,6 @@ invariant-loop-column g l =
     let m = g.S.Shelf in
     record {
       picked : Picked is_out (m.meaning l.fn.shelf) (m.meaning l.shelf) l.stripe l.column l.out;
+      calls : AtMost l.column (AsksState l.stripe) (Performed m.meaning m.performs) l.fn.shelf l.shelf;
       lent : m.lent l.shelf ≡ m.lent l.fn.shelf;
     }
