@@ -62,7 +62,7 @@ void plain_encode(size_t p, const uint64_t *values, uint64_t *cells) {
     }
 }
 
-// Solving: docs/solving.md
+// Solving: two columns or three, from the sums of the known ones along rows, diagonals and antidiagonals
 
 static size_t wrapped(size_t p, size_t number) {
     return number < p ? number : number - p;
