@@ -1,5 +1,5 @@
 -- What is known of a geometry's prime; which stop a geometry that is asked for gets.
-use Rattle.std.proofs.Common.{◌≡◌, ℕ, true, false, ◌&&◌, leb, ⊎_elim, arith}
+use Rattle.std.proofs.Common.{◌≡◌, ℕ, min, true, false, ◌&&◌, leb, ⊎_elim, arith}
 use Rattle.std.proofs.lemmas.Bool.Decides.{nat_tests}
 use Rattle.std.proofs.lemmas.Bool.{and_cases, leb-false}
 use Rattle.tip_code.specs.Geometry.{prime_of, SizeStop, no_prime, no_stripe, too_many}
@@ -8,10 +8,15 @@ use Rattle.tip_code.specs.Stops.{First}
 use Rattle.tip_code.specs.declared.geometry.Geometry.{Geometry}
 use Rattle.tip_code.specs.declared.stop.Stop.{Stop}
 use Rattle.tip_code.specs.declared.stop.Stop.TheVariants as stop
-use Rattle.tip_code.proofs.Tables.{prime_facts}
+use Rattle.tip_code.proofs.Tables.{listed_at, prime_facts}
+
+-- every geometry is valid
+pub valid : (g : Geometry) → listed (prime_of g) ≡ true
+unfolding prime_of
+valid g = listed_at (min g.rank 9) (omega arith)
 
 pub facts : (g : Geometry) → PrimeFacts (prime_of g)
-facts g = prime_facts (prime_of g) g.prime.listed
+facts g = prime_facts (prime_of g) (valid g)
 
 module _ (p n : ℕ) where
   pub size_prime : listed p ≡ false → First (SizeStop p n) stop.Prime

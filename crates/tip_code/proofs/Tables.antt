@@ -1,8 +1,8 @@
 -- Tests over ranges and over the table of primes: antt computes the test, these lemmas turn it into a fact at each entry.
-use Rattle.std.proofs.Common.{◌≡◌, ℕ, zero, suc, pred, ◌*◌, ◌%◌, ◌<◌, Bool, true, false, not, ◌&&◌, ◌||◌, eqb, leb, refl, ⊎_elim, not-suc-le-zero, arith}
+use Rattle.std.proofs.Common.{◌≡◌, ℕ, zero, suc, pred, ◌*◌, ◌%◌, ◌<◌, Bool, true, false, not, ◌&&◌, ◌||◌, eqb, leb, List, [], ◌∷◌, length, get_or, slice_index, refl, ⊎_elim, not-suc-le-zero, arith}
 use Rattle.std.specs.Bool.{Decides}
 use Rattle.std.specs.List.{Contains, list_all}
-use Rattle.std.proofs.lemmas.Bool.{or_cases, not-true, both_ways, eqb-true, leb-true}
+use Rattle.std.proofs.lemmas.Bool.{or_cases, or_from, ne_eqb, not-true, both_ways, eqb-true, leb-true}
 use Rattle.std.proofs.lemmas.Bool.Decides.{Decides-eqb, Decides-by_or, Decides-below_and, Decides-below_or}
 use Rattle.std.proofs.lemmas.List.Elements.{All-contains, Decides-contains}
 use Rattle.std.proofs.lemmas.List.Sums.{AllPass-from_list_all}
@@ -41,6 +41,16 @@ stands p h =
 -- a test that passes over the whole table passes at each prime
 pub prime_at : (f : ℕ → Bool) → list_all f primes ≡ true → (p : ℕ) → listed p ≡ true → f p ≡ true
 prime_at f t p h = All-contains (λ q. f q ≡ true) primes p (AllPass-from_list_all f primes t) (stands p h)
+
+-- a number that no entry of the table is, is not listed
+pub among_none : (p : ℕ) (xs : List ℕ) → ((k : ℕ) → k < length xs → get_or xs k 0 ≡ p → ⊥) → among p xs ≡ false
+among_none p [] h = refl
+among_none p (x ∷ xs) h =
+    or_from (eqb x p) (among p xs) (ne_eqb x p (h 0 (omega arith))) (among_none p xs (λ k l. h (suc k) (omega arith)))
+
+-- an entry of the table is listed
+pub listed_at : (k : ℕ) → k < 10 → listed (slice_index primes k) ≡ true
+listed_at = all_at 10 (λ k. listed (slice_index primes k)) refl
 
 -- each step u from 1 to p - 1, each residue i: some multiple of u is i
 abbrev reaches : ℕ → Bool

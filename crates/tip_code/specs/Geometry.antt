@@ -1,17 +1,17 @@
 -- The sizes of an array: its prime and its number of stripes.
-use Rattle.std.specs.Prelude.{◌≡◌, ℕ, ◌+◌, ◌-◌, ◌*◌, ◌≤◌, false}
-use Rattle.tip_code.specs.Primes.{listed}
+use Rattle.std.specs.Prelude.{◌≡◌, ℕ, ◌+◌, ◌-◌, ◌*◌, ◌≤◌, min, false, slice_index}
+use Rattle.tip_code.specs.Primes.{primes, listed}
 use Rattle.tip_code.specs.declared.geometry.Geometry.{Geometry}
 use Rattle.tip_code.specs.declared.stop.Stop.{Stop}
 use Rattle.tip_code.specs.declared.stop.Stop.TheVariants as stop
 
--- The prime p of a geometry.
-abbrev pub prime_of : Geometry → ℕ
-prime_of g = g.prime.number
+-- The prime p of a geometry: an entry of the table.
+unfoldable pub prime_of : Geometry → ℕ
+prime_of g = slice_index primes (min g.rank 9)
 
--- Its number of stripes.
+-- Its number of stripes: at most 4096, and at least one.
 abbrev pub stripes_of : Geometry → ℕ
-stripes_of g = g.stripes
+stripes_of g = min g.last 4095 + 1
 
 -- When sizes p and n are refused: p is not one of the primes; there is no stripe, or too many.
 pub data SizeStop (p n : ℕ) : Stop → Type 0 where

@@ -64,7 +64,7 @@ fn encode_by<E: Element>(prime: Prime, values: &[E], cells: &mut [E])
 /// Encodes a stripe: takes the elements of the (p - 1)(p - 2) places in their order, and fills a stripe buffer of
 /// (p - 1)(p + 1) elements. Every stripe has one encoding, and this is it.
 /// Stop 3: either has another length, and nothing is written.
-#[tactic(auto, using(crate::proofs::Encodings::one_encoding))]
+#[tactic(auto, using(crate::proofs::Encodings::one_encoding, crate::proofs::Sizes::valid))]
 pub fn encode<E: Element>(geometry: Geometry, values: &[E], cells: &mut [E]) -> Result<(), Stop>
     ensures stop { Stopped (EncodeStop (prime_of geometry) (length values.now) (length cells.old)) result }
     ensures cells { MatchResult result

@@ -1,19 +1,40 @@
 // The sizes of an array.
-ghost use Rattle.std.specs.Prelude.{◌≡◌, ◌≤◌, ◌&&◌, nat_le};
+ghost use Rattle.std.specs.Prelude.{◌≡◌, ◌<◌, ◌&&◌, true, false, MatchOption, nat_le, slice_index};
+ghost use Rattle.tip_code.specs.Primes.{primes, listed};
 
-use super::prime::Prime;
+use super::prime::{PRIMES, Prime};
 use super::stop::Stop;
 
 /// The most stripes that an array has.
 pub const MOST_STRIPES: usize = 4096;
 
-/// The prime p and the stripe count of an array.
+/// The prime p and the stripe count of an array. Every value is valid: a rank past the table's end counts as its last,
+/// and a last stripe past 4,095 as that, so a geometry may stand beside lent buffers and be copied freely.
 #[derive(Clone, Copy, PartialEq, Eq, Debug)]
 pub struct Geometry {
-    prime: Prime,
-    stripes: usize,
-    pub ghost least: { 1 ≤ stripes },
-    pub ghost most: { stripes ≤ 4096 },
+    rank: u8,
+    last: u16,
+}
+
+/// The prime of a rank.
+fn prime_at(rank: u8) -> Prime
+    requires { rank < 10 }
+    ensures { result.number ≡ slice_index primes rank }
+{
+    let number = PRIMES[rank as usize];
+    Prime { number }
+}
+
+/// Where p stands in the table of primes.
+fn rank_of(p: usize) -> Option<u8>
+    ensures { MatchOption result (listed p ≡ false) (λ e. (e < 10) × (slice_index primes e ≡ p) × (listed p ≡ true)) }
+{
+    for rank in 0..10u8 {
+        if prime_at(rank).number == p {
+            return Some(rank);
+        }
+    }
+    None
 }
 
 /// Whether an array may have this number of stripes.
@@ -36,12 +57,16 @@ impl Geometry {
         ensures stop { Stopped (SizeStop p stripes) result }
         ensures value { IfOk result (λ g. (prime_of g ≡ p) × (stripes_of g ≡ stripes)) }
     {
-        let prime = Prime::new(p)?;
-        if in_range(stripes) {
-            Ok(Geometry { prime, stripes })
-        } else {
-            Err(Stop::Stripes)
+        let Some(rank) = rank_of(p) else {
+            return Err(Stop::Prime);
+        };
+        if !in_range(stripes) {
+            return Err(Stop::Stripes);
         }
+        Ok(Geometry {
+            rank,
+            last: (stripes - 1) as u16,
+        })
     }
 
     /// The prime p.
@@ -49,7 +74,7 @@ impl Geometry {
         ensures value { result.number ≡ prime_of self }
         ensures facts { PrimeFacts result.number }
     {
-        self.prime
+        prime_at(self.rank.min(9))
     }
 
     /// How many stripes the array has.
@@ -58,14 +83,14 @@ impl Geometry {
         ensures low { 1 ≤ result }
         ensures high { result ≤ 4096 }
     {
-        self.stripes
+        self.last.min(4095) as usize + 1
     }
 
     /// How many elements a stripe buffer holds: p - 1 rows of p + 1 columns.
     pub fn cells(self) -> usize
         ensures { result ≡ cells_in (prime_of self) }
     {
-        let p = self.prime.number;
+        let p = self.prime().number;
         (p - 1) * (p + 1)
     }
 
@@ -73,7 +98,7 @@ impl Geometry {
     pub fn places(self) -> usize
         ensures { result ≡ places_in (prime_of self) }
     {
-        let p = self.prime.number;
+        let p = self.prime().number;
         (p - 1) * (p - 2)
     }
 }

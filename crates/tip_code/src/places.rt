@@ -1,5 +1,5 @@
-// Places: the data cells of a stripe by number, from 0 on, row by row, columns ascending. Everything that meets a place goes
-// through the promise of `place_cell`, so the numbering is known here alone.
+// Places: the data cells of a stripe by number, from 0 on, row by row, columns ascending. Here is the way from a place to its
+// cell; the way back is that of encoding, in `placing.rt`, and promises the same numbering.
 ghost use Rattle.std.specs.Prelude.{◌≡◌, ◌+◌, ◌-◌, ◌<◌, ◌≤◌, true, IfOk, nat_lt};
 ghost use Rattle.tip_element.specs.Counts.{count_below};
 ghost use Rattle.tip_code.specs.Geometry.{prime_of, places_in};
@@ -53,7 +53,7 @@ fn has_place(geometry: Geometry, place: usize) -> bool
 impl Geometry {
     /// The cell of a place; each place is one cell, and each data cell one place.
     /// Stop 11: the place is not below (p - 1)(p - 2).
-    #[tactic(auto, using(crate::proofs::Numbers::numbering))]
+    #[tactic(auto, using(crate::proofs::Numbers::numbering, crate::proofs::Sizes::valid))]
     pub fn locate(self, place: usize) -> Result<Cell, Stop>
         ensures stop { Stopped (PlaceStop (prime_of self) place) result }
         ensures value { IfOk result (λ c. Place (prime_of self) place c.row c.column) }

@@ -1,14 +1,16 @@
 -- A stripe that lost columns, and what solving makes of it.
 use Rattle.std.proofs.Common.{◌≡◌, ℕ, ◌+◌, ◌-◌, ◌/◌, ◌%◌, ◌<◌, ◌≤◌, true, List, length, get_or, take, ◌++◌, Some, ◌∙◌, subst, arith, mul_comm}
-use Rattle.std.proofs.lemmas.Nat.{div_below, mod_below, div-add-mod'}
+use Rattle.std.proofs.lemmas.Nat.{mul-le, div_below, mod_below, div-add-mod'}
 use Rattle.std.proofs.lemmas.List.{take_at, ext_get_or}
 use Rattle.tip_code.specs.Encoding.{Encodes}
-use Rattle.tip_code.specs.Geometry.{cells_in, places_in}
+use Rattle.tip_code.specs.Geometry.{prime_of, cells_in, places_in}
 use Rattle.tip_code.specs.Primes.{listed}
 use Rattle.tip_code.specs.Stops.{First}
 use Rattle.tip_code.specs.Stripe.{stripe_of}
+use Rattle.tip_code.specs.declared.geometry.Geometry.{Geometry}
 use Rattle.tip_code.specs.declared.stop.Stop.{Stop}
 use Rattle.tip_code.proofs.Numbers.{numbering}
+use Rattle.tip_code.proofs.Sizes.{valid, facts}
 use Rattle.tip_element.specs.Words.{word, no_word, word_join}
 use Rattle.tip_element.specs.declared.word.Word.{Word}
 use Rattle.tip_columns.specs.declared.Columns.{Columns}
@@ -33,6 +35,14 @@ same_cells p xs ys low lx ly h = ext_get_or no_word xs ys (omega arith) (λ k l.
     let low-row : k % rows < p - 1 = mod_below k rows (omega arith) in
     let in-table : k / rows < p + 1 = div_below k rows (p + 1) (omega arith) (omega (arith, mul_comm rows (p + 1))) in
     subst (λ (n : ℕ). get_or xs n no_word ≡ get_or ys n no_word) (div-add-mod' k rows) (h (k % rows) (k / rows) low-row (omega arith)))
+
+-- the prime of a geometry is one of the ten
+pub prime_listed : (g : Geometry) → listed (prime_of g) ≡ true
+prime_listed g = valid g
+
+-- a stripe has fewer than a thousand places
+pub places_few : (g : Geometry) → places_in (prime_of g) ≤ 870
+places_few g = mul-le (prime_of g - 1) (prime_of g - 2) 30 29 (omega (arith, (facts g).high)) (omega (arith, (facts g).high))
 
 -- solving gives the counted stripe back
 pub back : (p : ℕ) (lost : Columns) (zs xs ys : List Word) → CountedStripe p zs → Agree p (in_set lost) (stripe_of no_word p xs) (stripe_of no_word p zs) → Solved no_word word_join p (in_set lost) (stripe_of no_word p xs) (stripe_of no_word p ys) → length ys ≡ length zs → 3 ≤ p → ys ≡ zs

@@ -90,7 +90,7 @@ fn is_few(lost: Columns) -> bool
 
 /// The request for this prime and these columns; without columns one of them is too large for any set.
 /// Stop 1: p is not one of the ten primes. Stop 12: a column is above p. Stop 13: there are more than three.
-#[tactic(auto, using(crate::proofs::Refusals::choice_prime, crate::proofs::Refusals::choice_column))]
+#[tactic(auto, using(crate::proofs::Refusals::listed_of, crate::proofs::Refusals::choice_prime, crate::proofs::Refusals::choice_column))]
 pub fn chosen(p: usize, lost: Option<Columns>) -> Result<Request, Stop>
     ensures stop { Stopped (ChoiceStop p lost) result }
     ensures value { IfOk result (λ q. (prime_of q.geometry ≡ p) × (stripes_of q.geometry ≡ 1) × (lost ≡ Some q.lost)) }

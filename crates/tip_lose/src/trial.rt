@@ -91,7 +91,7 @@ fn lose(geometry: Geometry, lost: Columns, cells: &mut [Word])
 }
 
 /// Loses columns of that stripe and solves them.
-#[tactic(auto, using(crate::proofs::Losing::choice_first))]
+#[tactic(auto, using(crate::proofs::Losing::prime_listed, crate::proofs::Losing::choice_first))]
 fn lose_and_solve(
     heap: Global,
     geometry: Geometry,

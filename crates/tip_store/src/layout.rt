@@ -1,5 +1,6 @@
 // Where the strips of an array stand in a store.
 ghost use Rattle.std.specs.Prelude.{◌≤◌};
+ghost use Rattle.tip_code.specs.Geometry.{prime_of};
 
 use super::status::{Event, advance};
 use tip_code::geometry::Geometry;
@@ -12,6 +13,7 @@ pub struct Layout {
     width: usize,
     pub ghost least: { 1 ≤ width },
     pub ghost most: { width ≤ 241 },
+    pub ghost high: { prime_of geometry ≤ 31 },
 }
 
 /// Where a strip stands: its number, counted from 0, and the index of its status byte.
@@ -27,6 +29,7 @@ impl Layout {
     ghost use Rattle.tip_store.specs.Layout.{strips_in, strip_number, HasStrip, Spotted, Swept};
 
     /// The layout of status bytes alone.
+    #[tactic(auto, using(crate::proofs::Numbers::prime_high))]
     pub fn of_statuses(geometry: Geometry) -> Layout
         ensures { (result.geometry ≡ geometry) × (result.width ≡ 1) }
     {

@@ -68,3 +68,50 @@ fn cells_and_places_are_counted(rt: HostRuntime) -> Result<(), Fail> {
     }
     Ok(())
 }
+
+/// A run of cells with its sizes beside it, as a store of columns in lent memory has them.
+trait Store {
+    /// How many stripes its cells make.
+    fn stripes(&mut self) -> usize;
+}
+
+#[derive(Drop)]
+struct Lent<'a> {
+    geometry: Geometry,
+    cells: &'a mut [u64],
+}
+
+#[derive(Drop)]
+struct Layer<S> {
+    below: S,
+}
+
+impl Store for Lent<'_> {
+    fn stripes(&mut self) -> usize {
+        let stripe = self.geometry.cells().max(1);
+        self.cells.len() / stripe
+    }
+}
+
+impl<S: Store> Store for Layer<S> {
+    fn stripes(&mut self) -> usize {
+        self.below.stripes()
+    }
+}
+
+/// The store, where the buffer holds a stripe.
+fn over(geometry: Geometry, cells: &mut [u64]) -> Result<Lent<'_>, Stop> {
+    if cells.len() < geometry.cells() {
+        return Err(Stop::Length);
+    }
+    Ok(Lent { geometry, cells })
+}
+
+/// A geometry stands by value beside lent memory, in an answer and under a layer.
+#[test]
+fn a_geometry_stands_beside_lent_cells(rt: HostRuntime) -> Result<(), Fail> {
+    let mut cells = [0; 48];
+    let below = over(Geometry::new(5, 2)?, &mut cells)?;
+    assert_eq!(rt; Layer { below }.stripes(), 2);
+    Ok(())
+}

@@ -1,4 +1,5 @@
 use Rattle.std.proofs.Common.{ap, ◌∙◌, arith}
+use Rattle.tip_code.proofs.Sizes.{facts}
 use Rattle.tip_code.specs.Geometry.{cells_in}
 use Rattle.tip_array.proofs.Finding.{gather_none}
 use Rattle.tip_array.proofs.Filling.{remade}
@@ -11,4 +12,4 @@ returns-in_err-lost-clause-made g c =
 
 pub returns-clause-made : goal.returns-clause-made
 returns-clause-made g c =
-    remade c.fill_solved.result (omega (arith, c.geometry.ensures.prime, c.geometry.result.prime.high)) c.columns_blank-blank.ensures.picked c.in_ok-lost.ensures.gathered c.fill_solved.ensures.done
+    remade c.fill_solved.result (omega (arith, c.geometry.ensures.prime, (facts c.geometry.result).high)) c.columns_blank-blank.ensures.picked c.in_ok-lost.ensures.gathered c.fill_solved.ensures.done

@@ -1,12 +1,13 @@
 use Rattle.std.proofs.Common.{◌≡◌, sym, ◌∙◌, arith}
-use Rattle.tip_code.specs.Geometry.{places_in}
+use Rattle.tip_code.proofs.Sizes.{valid}
+use Rattle.tip_code.specs.Geometry.{prime_of, places_in}
 use Rattle.tip_cover.proofs.Covering.{covered_same, covered_more, covered_all}
 use Rattle.tip_cover.proofs.traced.Traced.covered.Goals as goal
 use Rattle.tip_cover.proofs.traced.Traced.covered.Goals.{then-covers, else-covers}
 
 pub loop-place-preserved : goal.loop-place-preserved
 loop-place-preserved c =
-    let listed = c.args.self.now.geometry.prime.listed in
+    let listed = valid c.args.self.now.geometry in
     let before = c.loop-place in
     elim c.if-covers.branch [
       | then-covers w ↦
@@ -19,6 +20,6 @@ loop-place-preserved c =
 
 pub returns : goal.returns
 returns c =
-    let prime = c.args.self.now.geometry.prime in
-    let all : c.loop-place.place ≡ places_in prime.number = omega (arith, c.places-place-end.ensures) in
-    covered_all _ prime.listed _ _ _ _ (rw all at c.loop-place.invariant)
+    let g = c.args.self.now.geometry in
+    let all : c.loop-place.place ≡ places_in (prime_of g) = omega (arith, c.places-place-end.ensures) in
+    covered_all _ (valid g) _ _ _ _ (rw all at c.loop-place.invariant)

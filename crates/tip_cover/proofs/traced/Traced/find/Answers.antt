@@ -1,4 +1,5 @@
 use Rattle.std.proofs.Common.{ℕ, ap, ◌∙◌}
+use Rattle.tip_code.proofs.Sizes.{valid}
 use Rattle.tip_cover.proofs.Tracing.{traced, counted}
 use Rattle.tip_cover.proofs.traced.Traced.find.Goals as goal
 use Rattle.tip_element.specs.Traces.{has}
@@ -14,6 +15,6 @@ returns c =
       found = found;
       cover = cover;
       encoded = λ g own is.
-          let alike = λ (k : ℕ). ap (λ s. has s k) found ∙ traced _ stripe.geometry.prime.listed _ _ at.line g own _ is _ _ cover k in
+          let alike = λ (k : ℕ). ap (λ s. has s k) found ∙ traced _ (valid stripe.geometry) _ _ at.line g own _ is _ _ cover k in
           (alike, counted _ stripe.few _ _ _ _ _ alike cover);
     }
