@@ -26,7 +26,9 @@ fn check_cleared(rt: &impl Abort, before: &[Word], after: &[Word], used: usize) 
     assert!(rt; used <= after.len());
     let (_, kept) = before.split_at(used);
     let (front, beyond) = after.split_at(used);
-    assert!(rt; all_zero(front), "{used} elements are used");
+    for (index, word) in front.iter().enumerate() {
+        assert_eq!(rt; word.0, 0, "{used} elements are used, index {index}");
+    }
     check_same(rt, "beyond what is used", 0, beyond, kept);
 }
 
