@@ -1,5 +1,5 @@
 -- Columns written into a stripe buffer.
-use Rattle.std.proofs.Common.{◌≡◌, ℕ, ◌+◌, ◌-◌, ◌*◌, ◌<◌, ◌≤◌, ◌≢◌, Ok, Err, Result, MatchResult, List, length, take, drop, ap, ◌∙◌, ⊎_elim, arith, rules}
+use Rattle.std.proofs.Common.{◌≡◌, ℕ, ◌+◌, ◌-◌, ◌*◌, ◌<◌, ◌≤◌, ◌≢◌, Ok, Err, Result, MatchResult, List, length, take, drop, ⊎_elim, arith, rules}
 use borrow.Rule.Slice.PartMut.{put_mid}
 use Rattle.std.proofs.lemmas.List.{places}
 use Rattle.std.proofs.lemmas.Bool.{cases_lt}
@@ -12,14 +12,14 @@ use Rattle.tip_solve.specs.Writing.{Elsewhere}
 pub part_long : {E : Type 0} (n s : ℕ) (xs : List E) → n + s ≤ length xs → length (take n (drop s xs)) ≡ n
 part_long n s xs h = search (rules, places)
 
-module _ {E : Type 0} (d : E) (p c s n : ℕ) (xs ys : List E) (at : s ≡ c * (p - 1)) (wide : n ≡ p - 1) (h : s + n ≤ length xs) (long : length ys ≡ n) where
-  -- a cell of another column stands before this one or after it
+module _ {E : Type 0} (d : E) (p c s n : ℕ) (xs ys : List E) (at : c * (p - 1) ≤ s) (wide : s + n ≤ c * (p - 1) + (p - 1)) (h : s + n ≤ length xs) (long : length ys ≡ n) where
+  -- a cell of another column stands before any part of this one or after it
   pub elsewhere : Elsewhere p c (stripe_of d p xs) (stripe_of d p (put_mid s n xs ys))
   elsewhere r k l _ ne =
       let i = cell_index p r k in
       ⊎_elim (λ (low : i < s). search (rules, places))
       (λ (b : s ≤ i). ⊎_elim
-      (λ (in-it : i < s + n). absurd (ne (index_apart p r k (i - s) c l (omega arith) (let e : i ≡ s + (i - s) = omega arith in e ∙ ap (λ a. a + (i - s)) at)).1))
+      (λ (in-it : i < s + n). let row = i - c * (p - 1) in absurd (ne (index_apart p r k row c l (omega arith) (omega arith)).1))
       (λ (past : s + n ≤ i). search (rules, places))
       (cases_lt i (s + n)))
       (cases_lt i s)
